@@ -1,0 +1,46 @@
+-- What follows from the definitions. A reader begins with Theorems, Cases and the three tables of wrong gates.
+pub mod Theorems
+pub mod Cases
+pub mod TellOrder
+pub mod TellCharge
+pub mod TellRefusal
+pub mod Table
+-- tests, lists and counts
+pub mod Tests
+pub mod Lists
+pub mod Images
+pub mod Counts
+-- setups and answers
+pub mod Setups
+pub mod Answers
+-- rank and refill
+pub mod Highest
+pub mod Ranking
+pub mod Refill
+-- the order of service, and what a client may still be charged
+pub mod Due
+pub mod InOrder
+pub mod Ahead
+pub mod Kept
+pub mod Passes
+-- the moves that events are made of
+pub mod Lines
+pub mod Leaving
+pub mod Turns
+pub mod Goes
+pub mod Pick
+-- the four events
+pub mod Run
+pub mod Arriving
+pub mod Invoke
+pub mod Reply
+pub mod AbortFront
+pub mod Abort
+pub mod Placed
+pub mod PlacedInvoke
+-- every event and every history
+pub mod Charge
+pub mod SoundStates
+pub mod Steps
+pub mod Reached
+pub mod Limit

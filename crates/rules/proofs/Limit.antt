@@ -1,0 +1,91 @@
+-- No run of a reached state could carry a charge past its limit, so 19 is never given.
+-- Assumes nothing.
+use Prim.Native.Nat.{ℕ, _+_, _*_, _≤_, _<_}
+use mathlib.Core.Path.{_≡_}
+use mathlib.Core.Bool.{Bool, true, false, not, _&&_, _||_}
+use mathlib.Core.List.{List}
+use mathlib.Core.Option.{Option, some, none}
+use native.Mathlib.Nat.{mul-le-mul}
+use native.Mathlib.Omega.{arith}
+use lib.Dec.{eqb, ltb, leb}
+use borrow.Author.Tests.{ltb-false, le-ltb}
+use Rattle.rules.specs.Limits.{maxCharge}
+use Rattle.rules.specs.Refusals.{accepted, noClient, waitsAlready, serverIdle, runOfNone, runPastCap}
+use Rattle.rules.specs.Refusals.{notWaiting, bestEffort, spentAlready, unsound}
+use Rattle.rules.specs.Setup.{Setup, Accepted, realTime, service}
+use Rattle.rules.specs.State.{State, isIdle, isSpent}
+use Rattle.rules.specs.Rank.{outranks}
+use Rattle.rules.specs.Queues.{waits}
+use Rattle.rules.specs.Events.{Event, invoke, run, reply, abort, charged, ran}
+use Rattle.rules.specs.Step.{present, overcharges, answer}
+use Rattle.rules.specs.Records.{Record, eventOf, answerOf}
+use Rattle.rules.specs.History.{after, struck}
+use Rattle.rules.specs.Demands.{worst}
+use Rattle.rules.proofs.Tests.{by-test, not-given}
+use Rattle.rules.proofs.Counts.{some-not}
+use Rattle.rules.proofs.Ranking.{by-priority}
+use Rattle.rules.proofs.Setups.{allowed}
+use Rattle.rules.proofs.Kept.{kept-worst}
+use Rattle.rules.proofs.Run.{charged-facts, run-kept}
+use Rattle.rules.proofs.Reached.{reached}
+
+module _ (u : Setup) (a : Accepted u) where
+  -- (2 + 2mK)L is at most (2 + 2 * 8 * 8) * 65,535
+  worst-small : (c : ℕ) → c < u .clients → worst (u .size (u .cluster c)) (u .clusters) (service u) ≤ maxCharge
+  worst-small c k =
+      let q = allowed u a in
+      let m : u .size (u .cluster c) * u .clusters ≤ 64 =
+      mul-le-mul (q .small-size (u .cluster c) (q .homes c k)) (q .few-clusters) in
+      let w : worst (u .size (u .cluster c)) (u .clusters) (service u) ≤ 130 * 65535 =
+      mul-le-mul {n₂ = 130} (omega arith) (q .small-cap) in
+      omega arith
+
+  never-over : (h : List Record) (n : ℕ) → after u h .units + n ≤ u .cap → overcharges u (after u h) n ≡ false
+  unfolding ran
+  never-over h n fits =
+      some-not (λ c. charged u (outranks u s) s c && ltb maxCharge (s .charge c + n)) (u .clients) (λ c k.
+      by-test (charged u (outranks u s) s c)
+      (λ e. rw e (le-ltb maxCharge (s .charge c + n) (small c k e)))
+      (λ e. rw e))
+    where
+      s : State
+      s = after u h
+
+      small : (c : ℕ) → c < u .clients → charged u (outranks u s) s c ≡ true → s .charge c + n ≤ maxCharge
+      small c k e =
+          let i = reached u a (by-priority u) h in
+          let now = run-kept u (outranks u s) s n fits c (struck u c h) (i .in-order) (i .kept c (charged-facts u (outranks u s) s c e .real)) in
+          let w : s .charge c + n ≤ worst (u .size (u .cluster c)) (u .clusters) (service u) =
+          rw e at (kept-worst u (outranks u s) (ran u (outranks u s) n s) c (struck u c h) now) in
+          omega (arith, worst-small c k)
+
+  pub never-unsound : (h : List Record) (r : Record) → answerOf u (after u h) (eventOf r) ≡ unsound → ⊥
+  unfolding answer
+  never-unsound h r = go (eventOf r)
+    where
+      s : State
+      s = after u h
+
+      go : (o : Option Event) → answerOf u s o ≡ unsound → ⊥
+      go none e = omega arith
+      go (some (invoke c)) e =
+          let k = not-given (leb (u .clients) c) noClient _ unsound (λ q. omega arith) e in
+          let w = not-given (present u s c) waitsAlready accepted unsound (λ q. omega arith) (k .1) in
+          omega (arith, w .1)
+      go (some (run n)) e =
+          let z = not-given (eqb n 0) runOfNone _ unsound (λ q. omega arith) e in
+          let b = not-given (isIdle (s .server)) serverIdle _ unsound (λ q. omega arith) (z .1) in
+          let p = not-given (ltb (u .cap) (s .units + n)) runPastCap _ unsound (λ q. omega arith) (b .1) in
+          let f : s .units + n ≤ u .cap = ltb-false (u .cap) (s .units + n) (p .0) in
+          let o : accepted ≡ unsound = rw (never-over h n f) at (p .1) in
+          omega arith
+      go (some reply) e =
+          let b = not-given (isIdle (s .server)) serverIdle accepted unsound (λ q. omega arith) e in
+          omega (arith, b .1)
+      go (some (abort c)) e =
+          let there : Bool = waits u s c || isSpent (s .server) c in
+          let k = not-given (leb (u .clients) c) noClient _ unsound (λ q. omega arith) e in
+          let b = not-given (not (realTime u c)) bestEffort _ unsound (λ q. omega arith) (k .1) in
+          let n = not-given (not there) notWaiting _ unsound (λ q. omega arith) (b .1) in
+          let g = not-given (isSpent (s .server) c) spentAlready accepted unsound (λ q. omega arith) (n .1) in
+          omega (arith, g .1)

@@ -1,0 +1,40 @@
+-- The limits that document 01 sets, each once.
+-- Assumes nothing.
+use Prim.Native.Nat.{ℕ}
+
+-- Clusters K: 1 to 8.
+abbrev pub maxClusters : ℕ
+maxClusters = 8
+
+-- Processors in cluster k, m: 1 to 8.
+abbrev pub maxSize : ℕ
+maxSize = 8
+
+-- Clients N: 0 to 64, numbered from 0.
+abbrev pub maxClients : ℕ
+maxClients = 64
+
+-- Length cap L, in units: 1 to 65,535.
+abbrev pub maxCap : ℕ
+maxCap = 65535
+
+-- No charge is over 16,777,215.
+abbrev pub maxCharge : ℕ
+maxCharge = 16777215
+
+-- Unused places hold 255.
+abbrev pub unusedPlace : ℕ
+unusedPlace = 255
+
+-- The quote: own work e, period p, and of each server line calls N and cap L.
+abbrev pub maxWork : ℕ
+maxWork = 1000000000
+
+abbrev pub maxPeriod : ℕ
+maxPeriod = 200000000000
+
+abbrev pub maxLines : ℕ
+maxLines = 16
+
+abbrev pub maxCalls : ℕ
+maxCalls = 1000

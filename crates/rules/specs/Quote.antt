@@ -1,0 +1,80 @@
+-- The quote: a budget, or a refusal of the order.
+-- Assumes nothing.
+use Prim.Native.Nat.{ℕ, suc, _+_, _*_}
+use mathlib.Core.Bool.{Bool, false, not, _&&_, _||_, cond}
+use mathlib.Core.List.{List, [], _∷_}
+use lib.Dec.{eqb, ltb, leb}
+use lib.IntN.{ℤ, pos, negsuc, natAbs}
+use lib.ListN.{length}
+use Rattle.rules.specs.Limits.{maxWork, maxPeriod, maxSize, maxClusters, maxLines, maxCalls, maxCap}
+use Rattle.rules.specs.Refusals.{accepted, fieldOut, overPeriod, badLines}
+use Rattle.rules.specs.Demands.{worst}
+
+-- Fields are signed: own work e, period p, m and K, and the two columns of the server lines, calls N and cap L.
+pub record Order : Type 0 where
+  pub work : ℤ
+  pub period : ℤ
+  pub size : ℤ
+  pub clusters : ℤ
+  pub calls : List ℤ
+  pub caps : List ℤ
+
+pub record Quote : Type 0 where
+  pub budget : ℕ
+  pub answer : ℕ
+  pub place : ℕ
+
+-- RANGES
+
+abbrev pub inRange : ℕ → ℕ → ℤ → Bool
+inRange low high (pos n) = leb low n && leb n high
+inRange low high (negsuc n) = false
+
+-- N (0 to 1,000) and L (1 to 65,535) of each line
+abbrev pub linesFit : List ℤ → List ℤ → List Bool
+linesFit [] caps = []
+linesFit (n ∷ calls) [] = []
+linesFit (n ∷ calls) (l ∷ caps) = inRange 0 maxCalls n ∷ inRange 1 maxCap l ∷ linesFit calls caps
+
+-- The fields in the order e, p, m, K, then N and L of each line: whether each is in its range.
+abbrev pub fieldsFit : Order → List Bool
+fieldsFit o =
+    inRange 1 maxWork (o .work) ∷
+    inRange 1 maxPeriod (o .period) ∷
+    inRange 1 maxSize (o .size) ∷
+    inRange 1 maxClusters (o .clusters) ∷
+    linesFit (o .calls) (o .caps)
+
+-- the place of the first false, the length if there is none: 0 to 3, and 4 + 2i and 5 + 2i for line i from 0
+abbrev pub firstFalse : List Bool → ℕ
+firstFalse [] = 0
+firstFalse (b ∷ bs) = cond b (suc (firstFalse bs)) 0
+
+-- BUDGET
+
+-- the sum over lines of N(2 + 2mK)L
+abbrev pub burnt : ℕ → ℕ → List ℤ → List ℤ → ℕ
+burnt m K [] caps = 0
+burnt m K (n ∷ calls) [] = 0
+burnt m K (n ∷ calls) (l ∷ caps) = natAbs n * worst m K (natAbs l) + burnt m K calls caps
+
+-- Budget = e + the sum over lines of N(2 + 2mK)L.
+abbrev pub budgetOf : Order → ℕ
+budgetOf o = natAbs (o .work) + burnt (natAbs (o .size)) (natAbs (o .clusters)) (o .calls) (o .caps)
+
+-- ANSWER
+
+-- Refused: budget 0. The place is 0 in every answer but 30.
+abbrev pub refusedQuote : ℕ → ℕ → Quote
+refusedQuote n at = record { budget = 0; answer = n; place = at }
+
+-- Check 32, then the fields; 30 also gives the field's place. Then 31. A budget equal to p is accepted.
+unfoldable pub quote : Order → Quote
+quote o =
+    cond (ltb maxLines (length (o .calls)) || not (eqb (length (o .calls)) (length (o .caps))))
+    (refusedQuote badLines 0)
+    (cond (ltb (firstFalse (fieldsFit o)) (length (fieldsFit o)))
+    (refusedQuote fieldOut (firstFalse (fieldsFit o)))
+    (cond (ltb (natAbs (o .period)) (budgetOf o))
+    (refusedQuote overPeriod 0)
+    (record { budget = budgetOf o; answer = accepted; place = 0 })))

@@ -1,0 +1,106 @@
+-- The numbers of refusal, each once. Everything else speaks of them by these names.
+-- Assumes nothing.
+use Prim.Native.Nat.{ℕ}
+
+abbrev pub accepted : ℕ
+accepted = 0
+
+-- OF A SETUP
+
+-- cluster count not 1 to 8
+abbrev pub badClusters : ℕ
+badClusters = 1
+
+-- cap is 0
+abbrev pub noCap : ℕ
+noCap = 2
+
+-- more than 64 clients
+abbrev pub manyClients : ℕ
+manyClients = 3
+
+-- a cluster size not 1 to 8
+abbrev pub badSize : ℕ
+badSize = 4
+
+-- a client's kind not 0 or 1, or its cluster not below K
+abbrev pub badRow : ℕ
+badRow = 5
+
+-- OF AN EVENT
+
+-- no such client
+abbrev pub noClient : ℕ
+noClient = 10
+
+-- invoke by a client that waits already, spent included
+abbrev pub waitsAlready : ℕ
+waitsAlready = 11
+
+-- run or reply on an idle server
+abbrev pub serverIdle : ℕ
+serverIdle = 12
+
+-- run of 0 units
+abbrev pub runOfNone : ℕ
+runOfNone = 13
+
+-- run would carry units served past L
+abbrev pub runPastCap : ℕ
+runPastCap = 14
+
+-- abort of a client that neither waits nor is spent
+abbrev pub notWaiting : ℕ
+notWaiting = 15
+
+-- abort of a best-effort client
+abbrev pub bestEffort : ℕ
+bestEffort = 16
+
+-- abort of a client already spent
+abbrev pub spentAlready : ℕ
+spentAlready = 17
+
+-- unknown event code, or a reply whose argument isn't 0
+abbrev pub unknownRecord : ℕ
+unknownRecord = 18
+
+-- state not sound, or a run would carry a charge past 16,777,215
+abbrev pub unsound : ℕ
+unsound = 19
+
+-- OF A LOG
+
+-- log shorter than 9 bytes
+abbrev pub logShort : ℕ
+logShort = 20
+
+-- mark wrong
+abbrev pub badMark : ℕ
+badMark = 21
+
+-- version not 1
+abbrev pub badVersion : ℕ
+badVersion = 22
+
+-- tables or last record cut
+abbrev pub logCut : ℕ
+logCut = 23
+
+-- log over 65,536 bytes
+abbrev pub logLong : ℕ
+logLong = 24
+
+-- OF AN ORDER
+
+-- a form field out of range
+abbrev pub fieldOut : ℕ
+fieldOut = 30
+
+-- quoted budget over the period
+abbrev pub overPeriod : ℕ
+overPeriod = 31
+
+-- over 16 server lines, or the two columns differ in length
+abbrev pub badLines : ℕ
+badLines = 32
