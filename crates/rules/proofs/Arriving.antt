@@ -34,7 +34,8 @@ module _ (u : Setup) (c : ℕ) (s : State) where
     pub no-later : (j : ℕ) → NoLater (s .lines j) (s .lines j) (t .lines j)
     pub no-return : (x : ℕ) → (x ≡ c → ⊥) → t .room x ≡ true → s .room x ≡ true
     pub same-line : (x : ℕ) → (x ≡ c → ⊥) → t .room x ≡ true → t .lines (u .cluster x) ≡ s .lines (u .cluster x)
-    pub not-new : (x : ℕ) → (x ≡ c → ⊥) → has x (t .lines (u .cluster x)) ≡ true → has x (s .lines (u .cluster x)) ≡ true
+    pub not-new : (x : ℕ) → (x ≡ c → ⊥) → has x (t .lines (u .cluster x)) ≡ true
+        → has x (s .lines (u .cluster x)) ≡ true
 
 module _ (u : Setup) (ok : Valid u) (rank : Rank) (c : ℕ) (s : State) (i : InOrder u s) where
   -- LAST, IF THE SERVER IS IDLE, PICK

@@ -1,9 +1,10 @@
 -- Counting numbers that pass a test, and searching for one that does not.
 -- Assumes nothing.
-use Prim.Native.Nat.{ℕ, zero, suc, _+_, _≤_, _<_}
+use Prim.Native.Nat.{ℕ, zero, suc, _+_, _-_, _≤_, _<_}
 use mathlib.Core.Path.{_≡_, refl}
 use mathlib.Core.Bool.{Bool, true, false, not, _&&_}
 use mathlib.Core.List.{List, [], _∷_}
+use native.Mathlib.Numerals.{add-one}
 use native.Mathlib.Omega.{arith}
 use lib.Dec.{eqb, ltb}
 use lib.ListN.{length}
@@ -100,3 +101,24 @@ failing-agree p q i (suc n) h =
 pub failing-same : (p q : ℕ → Bool) (n : ℕ) → ((x : ℕ) → x < n → p x ≡ q x)
     → firstFailing p n ≡ firstFailing q n
 failing-same p q n h = failing-agree p q 0 n (λ x a b. h x (omega arith))
+
+-- a search from i on, of the numbers below n: it goes on, stops, or comes to the end
+pub failing-turn : (p : ℕ → Bool) (i n : ℕ) → i < n → p i ≡ true
+    → failingFrom p i (n - i) ≡ failingFrom p (i + 1) (n - (i + 1))
+failing-turn p i n h e = go (n - i) (n - (i + 1)) (omega arith)
+  where
+    go : (a b : ℕ) → a ≡ suc b → failingFrom p i a ≡ failingFrom p (i + 1) b
+    go a b q = rw (q, add-one i, e)
+
+pub failing-stop : (p : ℕ → Bool) (i n : ℕ) → i < n → p i ≡ false → failingFrom p i (n - i) ≡ i
+failing-stop p i n h e = go (n - i) (omega arith)
+  where
+    go : (a : ℕ) → 0 < a → failingFrom p i a ≡ i
+    go zero q = absurd (omega arith)
+    go (suc a) q = rw e
+
+pub failing-end : (p : ℕ → Bool) (i n : ℕ) → n ≤ i → failingFrom p i (n - i) ≡ i
+failing-end p i n h = let q : n - i ≡ 0 = omega arith in rw q
+
+pub failing-start : (p : ℕ → Bool) (n : ℕ) → failingFrom p 0 (n - 0) ≡ firstFailing p n
+failing-start p n = let q : n - 0 ≡ n = omega arith in rw q

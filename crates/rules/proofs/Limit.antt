@@ -54,7 +54,8 @@ module _ (u : Setup) (a : Accepted u) where
       small : (c : ℕ) → c < u .clients → charged u (outranks u s) s c ≡ true → s .charge c + n ≤ maxCharge
       small c k e =
           let i = reached u a (by-priority u) h in
-          let now = run-kept u (outranks u s) s n fits c (struck u c h) (i .in-order) (i .kept c (charged-facts u (outranks u s) s c e .real)) in
+          let real = charged-facts u (outranks u s) s c e .real in
+          let now = run-kept u (outranks u s) s n fits c (struck u c h) (i .in-order) (i .kept c real) in
           let w : s .charge c + n ≤ worst (u .size (u .cluster c)) (u .clusters) (service u) =
           rw e at (kept-worst u (outranks u s) (ran u (outranks u s) n s) c (struck u c h) now) in
           omega (arith, worst-small c k)

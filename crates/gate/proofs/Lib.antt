@@ -1,0 +1,7 @@
+-- What follows from the definitions of this crate.
+pub mod Verdicts
+pub mod Zeros
+pub mod Making
+pub mod Tables
+pub mod Reading
+pub mod SoundShows

@@ -1,0 +1,23 @@
+-- The gate that is made of a setup, accepted or refused.
+-- Assumes nothing.
+use mathlib.Core.Path.{_≡_, sym, ap, _∙_}
+use mathlib.Core.Bool.{true, false}
+use lib.Dec.{eqb}
+use Rattle.rules.specs.Refusals.{accepted}
+use Rattle.rules.specs.State.{fresh}
+use Rattle.gate.specs.declared.Setup.{Setup}
+use Rattle.gate.specs.declared.Gate.{Gate}
+use Rattle.gate.specs.declared.Verdict.{Verdict}
+use Rattle.gate.specs.Shown.{setupOf, shown}
+use Rattle.gate.specs.Made.{Told, told, verdictOf, trimmedIn, emptyBytes, emptyGate, freshGate, madeOf, made}
+
+module _ (s : Setup) (v : Verdict) (g : Gate) (e : told v ≡ verdictOf (setupOf s)) where
+  pub made-accepted : eqb (told v .number) accepted ≡ true → g ≡ shown (trimmedIn s) fresh
+      → madeOf (record { verdict = v; gate = g }) ≡ made s
+  unfolding made freshGate verdictOf
+  made-accepted a q = rw (e, q, ap (λ (t : Told). eqb (t .number) accepted) (sym e) ∙ a)
+
+  pub made-refused : eqb (told v .number) accepted ≡ false → g ≡ shown emptyBytes fresh
+      → madeOf (record { verdict = v; gate = g }) ≡ made s
+  unfolding made freshGate emptyGate verdictOf
+  made-refused a q = rw (e, q, ap (λ (t : Told). eqb (t .number) accepted) (sym e) ∙ a)

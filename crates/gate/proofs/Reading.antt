@@ -1,0 +1,236 @@
+-- Reading what is shown gives the state back; showing what is read gives the gate back.
+-- Assumes nothing.
+use Prim.Native.Nat.{ℕ, _^_, _≤_, _<_}
+use mathlib.Core.Path.{_≡_, refl, sym, ap, _∙_, fun-ext}
+use mathlib.Core.Bool.{Bool, true, false, _&&_}
+use mathlib.Core.List.{List}
+use native.Mathlib.Omega.{arith}
+use lib.Dec.{eqb, ltb}
+use lib.ListN.{length, getD, List·getD-eq-default}
+use borrow.Author.Tests.{eqb-true, eqb-false, eq-eqb, ltb-true, ltb-false, lt-ltb}
+use Rattle.rules.specs.Limits.{maxClusters, maxSize, maxClients}
+use Rattle.rules.specs.Lists.{has}
+use Rattle.rules.specs.State as rules
+use Rattle.rules.specs.State.{State}
+use Rattle.rules.proofs.Tests.{by-test, clash, not-so}
+use Rattle.sets.specs.Sets.{member, setOf}
+use Rattle.sets.proofs.Laws.{member-setOf, is-setOf}
+use Rattle.places.specs.Places.{pad, unpad, usedFirst}
+use Rattle.places.proofs.Pads.{unpad-pad, pad-unpad, unpad-fits, no-unused}
+use Rattle.gate.specs.declared.Line.{Line}
+use Rattle.gate.specs.declared.Server.{Server}
+use Rattle.gate.specs.declared.Server.the-variants.{Idle, Front, Best, Spent}
+use Rattle.gate.specs.declared.Setup.{Setup}
+use Rattle.gate.specs.declared.Gate.{Gate}
+use Rattle.gate.specs.Shown.{setupOf, serverOf, blankLine, stateOf}
+use Rattle.gate.specs.Shown.{table, showServer, showLines, showRooms, shown}
+use Rattle.gate.specs.Shows.{Fine, Fits, ServerFits, Shows, Within}
+use Rattle.gate.proofs.Tables.{table-at, table-past, table-same, list-table}
+
+-- PARTS
+
+pub show-server : (x : Server) → showServer (serverOf x) ≡ x
+show-server Idle = refl
+show-server (Front c) = refl
+show-server (Best c) = refl
+show-server (Spent c) = refl
+
+abbrev gateOf : Setup → List Line → List ℕ → List ℕ → List ℕ → Server → ℕ → List ℕ → Gate
+gateOf a b c d e f g h = record {
+  setup = a;
+  lines = b;
+  rooms = c;
+  global = d;
+  background = e;
+  server = f;
+  units = g;
+  charges = h;
+}
+
+-- gates are equal whose parts are
+pub same-gate : {a a′ : Setup} {b b′ : List Line} {c c′ d d′ e e′ : List ℕ} {f f′ : Server} {g g′ : ℕ} {h h′ : List ℕ}
+    → a ≡ a′ → b ≡ b′ → c ≡ c′ → d ≡ d′ → e ≡ e′ → f ≡ f′ → g ≡ g′ → h ≡ h′
+    → gateOf a b c d e f g h ≡ gateOf a′ b′ c′ d′ e′ f′ g′ h′
+same-gate p q r s t u v w = rw (p, q, r, s, t, u, v, w)
+
+-- a gate that shows a state is the shown one
+pub shows-is : (v : Setup) (s : State) (g : Gate) → Shows v s g → g ≡ shown v s
+unfolding shown
+shows-is v s g h =
+    same-gate (h .setup) (h .lines) (h .rooms) (h .global) (h .background)
+    (sym (show-server (g .server)) ∙ ap showServer (h .server)) (h .units) (h .charges)
+
+fits-unpad : (n : ℕ) (l : List ℕ) → Fits n l → unpad (pad n l) ≡ l
+fits-unpad n l f = unpad-pad n l (no-unused l (λ x e. omega (arith, f .used x e))) (f .short)
+
+and-last : (b : Bool) → b ≡ b && true
+and-last true = refl
+and-last false = refl
+
+and-none : (b : Bool) → false ≡ b && false
+and-none true = refl
+and-none false = refl
+
+-- READING WHAT IS SHOWN
+
+module _ (v : Setup) (s : State) (g : Gate) (h : Shows v s g) (w : Within s) where
+  line-back : (k : ℕ) → unpad (getD (g .lines) k blankLine .places) ≡ s .lines k
+  unfolding unpad
+  line-back k =
+      by-test (ltb k maxClusters)
+      (λ e. rw (
+        h .lines,
+        table-at maxClusters (λ j. record { places = pad maxSize (s .lines j) }) k blankLine
+            (ltb-true k maxClusters e),
+      ) (fits-unpad maxSize (s .lines k) (h .line-fits k)))
+      (λ e. rw (
+        h .lines,
+        table-past maxClusters (λ j. record { places = pad maxSize (s .lines j) }) k blankLine
+            (ltb-false k maxClusters e),
+      ) (sym (w .lines k (ltb-false k maxClusters e))))
+
+  charge-back : (c : ℕ) → getD (g .charges) c 0 ≡ s .charge c
+  charge-back c =
+      by-test (ltb c maxClients)
+      (λ e. rw (h .charges) (table-at maxClients (s .charge) c 0 (ltb-true c maxClients e)))
+      (λ e.
+      let past = ltb-false c maxClients e in
+      rw (h .charges) (table-past maxClients (s .charge) c 0 past ∙ sym (w .charge c past)))
+
+  room-back : (c : ℕ) → ltb c maxClients && member (getD (g .rooms) (getD (g .setup .homes) c 0) 0) c ≡ s .room c
+  room-back c =
+      by-test (ltb c maxClients)
+      (λ e.
+      let k : ℕ = getD (v .homes) c 0 in
+      let inK : ℕ → ℕ → Bool = λ j i. s .room i && eqb (getD (v .homes) i 0) j in
+      rw (
+        e,
+        h .setup,
+        h .rooms,
+        table-at maxClusters (λ j. setOf maxClients (inK j)) k 0 (h .fine .homes c),
+        member-setOf maxClients (inK k) c (ltb-true c maxClients e),
+        eq-eqb k k refl,
+      ) (and-last (s .room c)))
+      (λ e. rw e (sym (w .room c (ltb-false c maxClients e))))
+    where
+      and-last : (b : Bool) → b && true ≡ b
+      and-last true = refl
+      and-last false = refl
+
+  pub state-back : stateOf g ≡ s
+  unfolding stateOf
+  state-back =
+      same (fun-ext line-back) (fun-ext room-back)
+      (rw (h .global) (fits-unpad maxClusters (s .global) (h .global-fits)))
+      (rw (h .background) (fits-unpad maxClients (s .background) (h .background-fits)))
+      (h .server) (h .units) (fun-ext charge-back)
+    where
+      same : {a a′ : ℕ → List ℕ} {b b′ : ℕ → Bool} {c c′ d d′ : List ℕ} {e e′ : rules.Server} {f f′ : ℕ} {x x′ : ℕ → ℕ}
+          → a ≡ a′ → b ≡ b′ → c ≡ c′ → d ≡ d′ → e ≡ e′ → f ≡ f′ → x ≡ x′
+          → _≡_ {A = State}
+          (record { lines = a; room = b; global = c; background = d; server = e; units = f; charge = x })
+          (record { lines = a′; room = b′; global = c′; background = d′; server = e′; units = f′; charge = x′ })
+      same p q r s t u v = rw (p, q, r, s, t, u, v)
+
+-- SHOWING WHAT IS READ
+
+-- n places, used ones first, that hold clients
+pub record Laid (n : ℕ) (q : List ℕ) : Type 0 where
+  pub size : length q ≡ n
+  pub first : usedFirst q ≡ true
+  pub known : (x : ℕ) → has x (unpad q) ≡ true → x < maxClients
+
+-- a set of clients of cluster k
+pub record OwnRoom (v : Setup) (k s : ℕ) : Type 0 where
+  pub word : s < 2 ^ maxClients
+  pub own : (c : ℕ) → c < maxClients → member s c ≡ true → setupOf v .cluster c ≡ k
+
+-- every place of a gate is as it should be, whoever stands there
+pub record LaidOut (g : Gate) : Type 0 where
+  pub fine : Fine (g .setup)
+  pub eight-lines : length (g .lines) ≡ maxClusters
+  pub line : (k : ℕ) → k < maxClusters → Laid maxSize (getD (g .lines) k blankLine .places)
+  pub eight-rooms : length (g .rooms) ≡ maxClusters
+  pub room : (k : ℕ) → k < maxClusters → OwnRoom (g .setup) k (getD (g .rooms) k 0)
+  pub global : Laid maxClusters (g .global)
+  pub background : Laid maxClients (g .background)
+  pub server : ServerFits (serverOf (g .server))
+  pub charges : length (g .charges) ≡ maxClients
+
+laid-pad : (n : ℕ) (q : List ℕ) → Laid n q → q ≡ pad n (unpad q)
+laid-pad n q h = sym (rw (h .size) at (pad-unpad q (h .first)))
+
+laid-fits : (n : ℕ) (q : List ℕ) → Laid n q → Fits n (unpad q)
+laid-fits n q h = record { short = rw (h .size) at (unpad-fits q); used = h .known }
+
+module _ (g : Gate) (h : LaidOut g) where
+  lines-shown : g .lines ≡ showLines (stateOf g .lines)
+  unfolding stateOf
+  lines-shown =
+      list-table (g .lines) blankLine
+      ∙ ap (λ n. table n (λ (k : ℕ). getD (g .lines) k blankLine)) (h .eight-lines)
+      ∙ table-same maxClusters (λ (k : ℕ). getD (g .lines) k blankLine)
+      (λ (k : ℕ). record { places = pad maxSize (unpad (getD (g .lines) k blankLine .places)) })
+      (λ k b. ap (λ (q : List ℕ). record { places = q }) (laid-pad maxSize _ (h .line k b)))
+
+  rooms-shown : g .rooms ≡ showRooms (setupOf (g .setup) .cluster) (stateOf g .room)
+  unfolding stateOf
+  rooms-shown =
+      list-table (g .rooms) 0
+      ∙ ap (λ n. table n (λ (k : ℕ). getD (g .rooms) k 0)) (h .eight-rooms)
+      ∙ table-same maxClusters (λ (k : ℕ). getD (g .rooms) k 0)
+      (λ (k : ℕ). setOf maxClients (λ (c : ℕ). inOwn c && eqb (home c) k))
+      (λ k b. is-setOf maxClients (getD (g .rooms) k 0) (λ (c : ℕ). inOwn c && eqb (home c) k) (h .room k b .word)
+      (λ c l. by-test (eqb (home c) k) (λ e. rw e (here k c l (eqb-true (home c) k e))) (λ e. rw e (away k b c l e))))
+    where
+      home : ℕ → ℕ
+      home = setupOf (g .setup) .cluster
+
+      inOwn : ℕ → Bool
+      inOwn c = ltb c maxClients && member (getD (g .rooms) (home c) 0) c
+
+      here : (k c : ℕ) → c < maxClients → home c ≡ k → member (getD (g .rooms) k 0) c ≡ inOwn c && true
+      here k c l e = rw (lt-ltb c maxClients l, e) (and-last (member (getD (g .rooms) k 0) c))
+
+      away : (k : ℕ) → k < maxClusters → (c : ℕ) → c < maxClients → eqb (home c) k ≡ false
+          → member (getD (g .rooms) k 0) c ≡ inOwn c && false
+      away k b c l e =
+          not-so (member (getD (g .rooms) k 0) c) (λ m. eqb-false (home c) k e (h .room k b .own c l m))
+          ∙ and-none (inOwn c)
+
+  -- what is laid out is shown
+  pub laid-shows : Shows (g .setup) (stateOf g) g
+  unfolding stateOf unpad
+  laid-shows =
+      record {
+        fine = h .fine;
+        setup = refl;
+        lines = lines-shown;
+        rooms = rooms-shown;
+        global = laid-pad maxClusters (g .global) (h .global);
+        background = laid-pad maxClients (g .background) (h .background);
+        server = refl;
+        units = refl;
+        charges = list-table (g .charges) 0 ∙ ap (λ n. table n (λ (c : ℕ). getD (g .charges) c 0)) (h .charges);
+        line-fits = line-fits;
+        global-fits = laid-fits maxClusters (g .global) (h .global);
+        background-fits = laid-fits maxClients (g .background) (h .background);
+        server-fits = h .server;
+      }
+    where
+      past : (k : ℕ) → maxClusters ≤ k → getD (g .lines) k blankLine ≡ blankLine
+      past k b = List·getD-eq-default (g .lines) blankLine (omega (arith, h .eight-lines))
+
+      line-fits : (k : ℕ) → Fits maxSize (unpad (getD (g .lines) k blankLine .places))
+      line-fits k =
+          by-test (ltb k maxClusters)
+          (λ e. laid-fits maxSize (getD (g .lines) k blankLine .places) (h .line k (ltb-true k maxClusters e)))
+          (λ e. rw (past k (ltb-false k maxClusters e)) (record { short = omega arith; used = λ x q. clash q refl }))
+
+  pub shown-back : shown (g .setup) (stateOf g) ≡ g
+  shown-back = sym (shows-is (g .setup) (stateOf g) g laid-shows)
+
+-- equal readings mean equal gates
+pub same-reading : (g g′ : Gate) → LaidOut g → LaidOut g′ → g .setup ≡ g′ .setup → stateOf g ≡ stateOf g′ → g ≡ g′
+same-reading g g′ h h′ e q =
+    sym (shown-back g h) ∙ ap (λ v. shown v (stateOf g)) e ∙ ap (shown (g′ .setup)) q ∙ shown-back g′ h′

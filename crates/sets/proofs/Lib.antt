@@ -1,0 +1,5 @@
+-- What holds of sets of clients, for words of any width. Assumes nothing.
+pub mod Bits
+pub mod Laws
+pub mod Words
+pub mod Cases

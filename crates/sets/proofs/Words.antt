@@ -1,0 +1,76 @@
+-- What the machine's shifts, ors, xors and counts of bits give, as sets. For any width n.
+-- Assumes nothing.
+use Prim.Native.Nat.{ℕ, zero, suc, _+_, _*_, _%_, _^_, _<_}
+use mathlib.Core.Path.{_≡_, refl, sym, ap, ap₂, _∙_}
+use mathlib.Core.Bool.{Bool, true, false, xor, _||_, cond}
+use native.Mathlib.Nat.{one-mul, zero-add}
+use native.Mathlib.Numerals.{one-add}
+use native.Mathlib.Omega.{arith}
+use lib.Bits.{bitOr, bitXor, or-lt, xor-lt}
+use lib.Count.{ones, ones-cat}
+use lib.Dec.{lit<, eqb}
+use lib.Pow.{pow-lt, shl-exact}
+use Rattle.rules.specs.Limits.{maxClients}
+use Rattle.rules.specs.Lists.{upd, count}
+use Rattle.sets.specs.Sets.{member, setOf, countOf}
+use Rattle.sets.proofs.Bits.{member-one, member-or, member-xor}
+use Rattle.sets.proofs.Laws.{setOf-below, setOf-member, is-setOf}
+
+-- a one, shifted within the word
+pub one-shifted : (n c : ℕ) → c < n → (1 * 2 ^ c) % 2 ^ n ≡ 2 ^ c
+one-shifted n c h = shl-exact {a = 1} 1 c n (lit< tt) (omega arith) ∙ one-mul (2 ^ c)
+
+module _ (n s c : ℕ) (h : s < 2 ^ n) (l : c < n) where
+  -- the bit of c set
+  pub or-one : bitOr s (2 ^ c) ≡ setOf n (upd (member s) c true)
+  or-one =
+      is-setOf n (bitOr s (2 ^ c)) (upd (member s) c true) (or-lt n s (2 ^ c) h (pow-lt l)) λ j m.
+      member-or s (2 ^ c) j ∙ ap (λ (b : Bool). member s j || b) (member-one c j) ∙ more (member s j) (eqb j c)
+    where
+      more : (a b : Bool) → (a || b) ≡ cond b true a
+      more true true = refl
+      more true false = refl
+      more false true = refl
+      more false false = refl
+
+  -- the bit of c set, and then turned
+  pub or-xor-one : bitXor (bitOr s (2 ^ c)) (2 ^ c) ≡ setOf n (upd (member s) c false)
+  unfolding xor
+  or-xor-one =
+      is-setOf n (bitXor (bitOr s (2 ^ c)) (2 ^ c)) (upd (member s) c false)
+      (xor-lt n (bitOr s (2 ^ c)) (2 ^ c) (or-lt n s (2 ^ c) h (pow-lt l)) (pow-lt l)) λ j m.
+      member-xor (bitOr s (2 ^ c)) (2 ^ c) j
+      ∙ ap₂ (λ (x y : Bool). xor x y) (member-or s (2 ^ c) j ∙ ap (λ (b : Bool). member s j || b) (member-one c j))
+      (member-one c j)
+      ∙ less (member s j) (eqb j c)
+    where
+      less : (a b : Bool) → xor (a || b) b ≡ cond b false a
+      less true true = refl
+      less true false = refl
+      less false true = refl
+      less false false = refl
+
+-- the bits of a set are counted as its members
+pub ones-setOf : (n : ℕ) (p : ℕ → Bool) → ones (setOf n p) ≡ count p n
+unfolding setOf ones
+ones-setOf zero p = refl
+ones-setOf (suc n) p = go (p n) (setOf n p) (setOf-below n p) (ones-setOf n p)
+  where
+    go :
+        (b : Bool) (r : ℕ) → r < 2 ^ n → ones r ≡ count p n
+        → ones (cond b (2 ^ n) 0 + r) ≡ cond b (suc (count p n)) (count p n)
+    go true r h e =
+        ap (λ (x : ℕ). ones (x + r)) (sym (one-mul (2 ^ n))) ∙ ones-cat n 1 r h ∙ ap (λ (x : ℕ). 1 + x) e
+        ∙ one-add (count p n)
+    go false r h e = ap ones (zero-add r) ∙ e
+
+pub ones-count : (n s : ℕ) → s < 2 ^ n → ones s ≡ count (member s) n
+ones-count n s h = ap ones (sym (setOf-member n s h)) ∙ ones-setOf n (member s)
+
+-- how many are in a set
+pub count-setOf : (n : ℕ) (p : ℕ → Bool) → count (member (setOf n p)) n ≡ count p n
+count-setOf n p = sym (ones-count n (setOf n p) (setOf-below n p)) ∙ ones-setOf n p
+
+pub countOf-setOf : (p : ℕ → Bool) → countOf (setOf maxClients p) ≡ count p maxClients
+unfolding countOf
+countOf-setOf p = count-setOf maxClients p

@@ -1,0 +1,2 @@
+-- What a word means as a set of clients. Assumes nothing.
+pub mod Sets

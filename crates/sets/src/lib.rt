@@ -1,0 +1,41 @@
+// Sets of clients as words: bit c of a u64 says whether client c is in the set.
+// A number of 64 or more is no client's: it is in no set, and joins and leaves none.
+
+ghost use mathlib.Core.Path.{_≡_};
+ghost use Rattle.sets.specs.Sets.{member, withOf, withoutOf, countOf};
+
+// The bits of a word.
+const WIDTH: usize = 64;
+
+// Is c in the set?
+pub fn member(s: u64, c: usize) -> bool
+    ensures { λ r. ⌜ r ≡ member s c ⌝ }
+{
+    if c < WIDTH { (s >> c) % 2 == 1 } else { false }
+}
+
+// The set with c.
+pub fn with(s: u64, c: usize) -> u64
+    ensures { λ r. ⌜ r ≡ withOf s c ⌝ }
+{
+    if c < WIDTH { s | (1u64 << c) } else { s }
+}
+
+// The set without c: its bit is set, and then turned.
+pub fn without(s: u64, c: usize) -> u64
+    ensures { λ r. ⌜ r ≡ withoutOf s c ⌝ }
+{
+    if c < WIDTH {
+        let one = 1u64 << c;
+        (s | one) ^ one
+    } else {
+        s
+    }
+}
+
+// How many are in the set.
+pub fn count(s: u64) -> usize
+    ensures { λ r. ⌜ r ≡ countOf s ⌝ }
+{
+    u64::count_ones(s) as usize
+}
