@@ -1,10 +1,15 @@
 -- The verdict on a setup, case by case in the order of the check.
 -- Assumes nothing.
-use Prim.Native.Nat.{_≤_, _<_}
+use Prim.Native.Nat.{ℕ, _≤_, _<_}
 use mathlib.Core.Path.{_≡_}
+use native.Mathlib.Omega.{arith}
+use lib.Dec.{eqb}
 use borrow.Author.Tests.{eq-eqb, ne-eqb, lt-ltb, le-ltb, lt-leb, le-leb}
 use Rattle.rules.specs.Limits.{maxClusters, maxClients}
-use Rattle.rules.specs.Setup.{Setup, setupAnswer, firstBadSize, firstBadRow}
+use Rattle.rules.specs.Refusals.{badSize, badRow}
+use Rattle.rules.specs.Setup.{Setup, setupAnswer, sizeFits, rowFits, firstBadSize, firstBadRow}
+use Rattle.rules.proofs.Tests.{by-test}
+use Rattle.rules.proofs.Counts.{firstFailing-le}
 use Rattle.gate.specs.Made.{told, verdictOf}
 use Rattle.gate.specs.declared.Verdict.the-variants.{Accepted, BadClusters, NoCap, ManyClients, BadSize, BadRow}
 
@@ -71,3 +76,13 @@ module _ (u : Setup) where
                   le-ltb (firstBadSize u) (u .clusters) sizes,
                   le-ltb (firstBadRow u) (u .clients) h,
                 )
+
+-- what a verdict tells is at most the number of clusters or clients
+pub which-le : (u : Setup) (n : ℕ) → u .clusters ≤ n → u .clients ≤ n → verdictOf u .which ≤ n
+unfolding verdictOf
+which-le u n h k =
+    by-test (eqb (setupAnswer u) badSize)
+    (λ e. rw e (omega (arith, firstFailing-le (sizeFits u) (u .clusters))))
+    (λ e. rw e (by-test (eqb (setupAnswer u) badRow)
+    (λ f. rw f (omega (arith, firstFailing-le (rowFits u) (u .clients))))
+    (λ f. rw f (omega arith))))

@@ -2,3 +2,4 @@
 pub mod Shown
 pub mod Shows
 pub mod Made
+pub mod Heard

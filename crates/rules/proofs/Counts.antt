@@ -122,3 +122,11 @@ failing-end p i n h = let q : n - i ≡ 0 = omega arith in rw q
 
 pub failing-start : (p : ℕ → Bool) (n : ℕ) → failingFrom p 0 (n - 0) ≡ firstFailing p n
 failing-start p n = let q : n - 0 ≡ n = omega arith in rw q
+
+failing-high : (p : ℕ → Bool) (i n : ℕ) → failingFrom p i n ≤ i + n
+failing-high p i zero = omega arith
+failing-high p i (suc n) =
+    by-test (p i) (λ e. rw e (omega (arith, failing-high p (suc i) n))) (λ e. rw e (omega arith))
+
+pub firstFailing-le : (p : ℕ → Bool) (n : ℕ) → firstFailing p n ≤ n
+firstFailing-le p n = omega (arith, failing-high p 0 n)

@@ -1,0 +1,94 @@
+-- Lines of text and what they ask for, computed. Each line is written as its bytes, under its text.
+-- Assumes nothing.
+use Prim.Native.Nat.{ℕ}
+use mathlib.Core.Path.{_≡_, refl}
+use mathlib.Core.List.{List, [], _∷_}
+use lib.IntN.{ℤ, pos, negsuc}
+use lib.ListN.{replicate}
+use Rattle.rules.specs.Quote.{quote}
+use Rattle.quote.specs.declared.Answer.{Answer}
+use Rattle.quote.specs.declared.Answer.the-variants.{Accepted, FieldOut, OverPeriod, BadLines}
+use Rattle.quote.specs.Told.{told}
+use Rattle.order.specs.Numbers.{fieldOf}
+use Rattle.order.specs.Orders.{orderFrom, values, asked}
+
+abbrev Gives : List ℕ → Answer → Type 0
+Gives s a = asked s ≡ told a
+
+-- 100,140,1,1,1,10
+-- 100,139,1,1,1,10
+-- 100,140,1,1,1,-40
+-- 20,290,2,4,3,5
+-- 5,5,1,1
+pub quotes :
+    Gives (49 ∷ 48 ∷ 48 ∷ 44 ∷ 49 ∷ 52 ∷ 48 ∷ 44 ∷ 49 ∷ 44 ∷ 49 ∷ 44 ∷ 49 ∷ 44 ∷ 49 ∷ 48 ∷ []) (Accepted 140)
+    × Gives (49 ∷ 48 ∷ 48 ∷ 44 ∷ 49 ∷ 51 ∷ 57 ∷ 44 ∷ 49 ∷ 44 ∷ 49 ∷ 44 ∷ 49 ∷ 44 ∷ 49 ∷ 48 ∷ []) OverPeriod
+    × Gives (49 ∷ 48 ∷ 48 ∷ 44 ∷ 49 ∷ 52 ∷ 48 ∷ 44 ∷ 49 ∷ 44 ∷ 49 ∷ 44 ∷ 49 ∷ 44 ∷ 45 ∷ 52 ∷ 48 ∷ []) (FieldOut 5)
+    × Gives (50 ∷ 48 ∷ 44 ∷ 50 ∷ 57 ∷ 48 ∷ 44 ∷ 50 ∷ 44 ∷ 52 ∷ 44 ∷ 51 ∷ 44 ∷ 53 ∷ []) (Accepted 290)
+    × Gives (53 ∷ 44 ∷ 53 ∷ 44 ∷ 49 ∷ 44 ∷ 49 ∷ []) (Accepted 5)
+unfolding quote asked values fieldOf
+quotes = (refl, refl, refl, refl, refl)
+
+-- (empty)
+-- 1,1,1
+-- 1,,1,1
+-- 1,1,1,1,1
+-- 1,x,1,1,1,1,1
+-- 1,1,1,1,
+-- 1,1,1,1,0,+1
+pub fields-wrong :
+    Gives ([]) (FieldOut 0)
+    × Gives (49 ∷ 44 ∷ 49 ∷ 44 ∷ 49 ∷ []) (FieldOut 3)
+    × Gives (49 ∷ 44 ∷ 44 ∷ 49 ∷ 44 ∷ 49 ∷ []) (FieldOut 1)
+    × Gives (49 ∷ 44 ∷ 49 ∷ 44 ∷ 49 ∷ 44 ∷ 49 ∷ 44 ∷ 49 ∷ []) BadLines
+    × Gives (49 ∷ 44 ∷ 120 ∷ 44 ∷ 49 ∷ 44 ∷ 49 ∷ 44 ∷ 49 ∷ 44 ∷ 49 ∷ 44 ∷ 49 ∷ []) BadLines
+    × Gives (49 ∷ 44 ∷ 49 ∷ 44 ∷ 49 ∷ 44 ∷ 49 ∷ 44 ∷ []) BadLines
+    × Gives (49 ∷ 44 ∷ 49 ∷ 44 ∷ 49 ∷ 44 ∷ 49 ∷ 44 ∷ 48 ∷ 44 ∷ 43 ∷ 49 ∷ []) (FieldOut 5)
+unfolding quote asked values fieldOf
+fields-wrong = (refl, refl, refl, refl, refl, refl, refl)
+
+-- the number that a field's text is read as
+abbrev Reads : List ℕ → ℤ → Type 0
+Reads s z = fieldOf s ≡ z
+
+-- 007
+-- -0
+-- -
+-- -40
+-- --1
+-- 1
+pub numbers :
+    Reads (48 ∷ 48 ∷ 55 ∷ []) (pos 7)
+    × Reads (45 ∷ 48 ∷ []) (pos 0)
+    × Reads (45 ∷ []) (negsuc 0)
+    × Reads (45 ∷ 52 ∷ 48 ∷ []) (negsuc 39)
+    × Reads (45 ∷ 45 ∷ 49 ∷ []) (negsuc 0)
+    × Reads (49 ∷ 32 ∷ []) (negsuc 0)
+unfolding fieldOf
+numbers = (refl, refl, refl, refl, refl, refl)
+
+-- 9223372036854775807
+-- 9223372036854775808
+-- -9223372036854775808
+-- -9223372036854775809
+pub extremes :
+    Reads (57 ∷ 50 ∷ 50 ∷ 51 ∷ 51 ∷ 55 ∷ 50
+    ∷ 48 ∷ 51 ∷ 54 ∷ 56 ∷ 53 ∷ 52 ∷ 55 ∷ 55 ∷ 53 ∷ 56 ∷ 48 ∷ 55 ∷ []) (pos 9223372036854775807)
+    × Reads (57 ∷ 50 ∷ 50 ∷ 51 ∷ 51 ∷ 55 ∷ 50
+    ∷ 48 ∷ 51 ∷ 54 ∷ 56 ∷ 53 ∷ 52 ∷ 55 ∷ 55 ∷ 53 ∷ 56 ∷ 48 ∷ 56 ∷ []) (negsuc 0)
+    × Reads (45 ∷ 57 ∷ 50 ∷ 50 ∷ 51 ∷ 51 ∷ 55 ∷ 50
+    ∷ 48 ∷ 51 ∷ 54 ∷ 56 ∷ 53 ∷ 52 ∷ 55 ∷ 55 ∷ 53 ∷ 56 ∷ 48 ∷ 56 ∷ []) (negsuc 9223372036854775807)
+    × Reads (45 ∷ 57 ∷ 50 ∷ 50 ∷ 51 ∷ 51 ∷ 55 ∷ 50
+    ∷ 48 ∷ 51 ∷ 54 ∷ 56 ∷ 53 ∷ 52 ∷ 55 ∷ 55 ∷ 53 ∷ 56 ∷ 48 ∷ 57 ∷ []) (negsuc 0)
+unfolding fieldOf
+extremes = (refl, refl, refl, refl)
+
+-- an empty line is an order with no fields
+pub no-fields : orderFrom (values []) ≡ orderFrom []
+unfolding values fieldOf
+no-fields = refl
+
+-- 1,024 bytes are too many, whatever they are
+pub long : Gives (replicate 1024 49) BadLines
+unfolding asked
+long = refl

@@ -1,0 +1,60 @@
+-- A column of the server lines: every other field from one on.
+-- Assumes nothing.
+use Prim.Native.Nat.{ℕ, zero, suc, _+_, _-_, _*_, _/_, _≤_, _<_}
+use native.Mathlib.Omega.{arith}
+use mathlib.Core.Path.{_≡_, refl, sym, _∙_}
+use mathlib.Core.List.{List, [], _∷_}
+use lib.IntN.{ℤ, pos}
+use lib.Dec.{eqb}
+use lib.ListN.{length, getD, take, drop, set, length-drop}
+use lib.Seq.{ext-getD, getD-take, getD-drop, getD-set-same, getD-set-other, length-take-le}
+use borrow.Author.Tests.{eqb-true, eqb-false}
+use Rattle.order.specs.Numbers.{outOfRange}
+use Rattle.order.specs.Orders.{everyOther}
+use Rattle.order.specs.Steps.{inColumn}
+use Rattle.rules.proofs.Tests.{by-test}
+
+length-everyOther : (l : List ℤ) → length (everyOther l) ≡ (length l + 1) / 2
+length-everyOther [] = refl
+length-everyOther (x ∷ []) = refl
+length-everyOther (x ∷ y ∷ l) = omega (arith, length-everyOther l)
+
+getD-everyOther : (l : List ℤ) (i : ℕ) (d : ℤ) → getD (everyOther l) i d ≡ getD l (2 * i) d
+getD-everyOther [] i d = refl
+getD-everyOther (x ∷ []) zero d = refl
+getD-everyOther (x ∷ []) (suc i) d = let e : 2 * suc i ≡ suc (suc (2 * i)) = omega arith in rw e
+getD-everyOther (x ∷ y ∷ l) zero d = refl
+getD-everyOther (x ∷ y ∷ l) (suc i) d =
+    let e : 2 * suc i ≡ suc (suc (2 * i)) = omega arith in rw e (getD-everyOther l i d)
+
+-- within a list, what stands for a missing element does not matter
+getD-any : (l : List ℤ) (i : ℕ) (d e : ℤ) → i < length l → getD l i d ≡ getD l i e
+getD-any [] i d e h = absurd (omega arith)
+getD-any (x ∷ l) zero d e h = refl
+getD-any (x ∷ l) (suc i) d e h = getD-any l i d e (omega arith)
+
+-- a list that holds f below i holds it below i + 1, once f i is stored there
+pub stored : (f : ℕ → ℤ) (out : List ℤ) (i : ℕ) (v : ℤ) → i < length out → v ≡ f i
+    → ((q : ℕ) → q < i → getD out q (pos 0) ≡ f q) → (q : ℕ) → q < i + 1 → getD (set out i v) q (pos 0) ≡ f q
+stored f out i v there e each q h =
+    by-test (eqb q i)
+    (λ y. let k = eqb-true q i y in rw k (getD-set-same out i v (pos 0) there ∙ e))
+    (λ n. let k = eqb-false q i n in getD-set-other out i q v (pos 0) k ∙ each q (omega arith))
+
+module _ (vs : List ℤ) (from : ℕ) where
+  pub length-column : length (everyOther (drop from vs)) ≡ inColumn (length vs) from
+  length-column = length-everyOther (drop from vs) ∙ rw length-drop
+
+  -- the part of the sixteen that are there
+  pub column-is : (out : List ℤ) → inColumn (length vs) from ≤ length out
+      → ((i : ℕ) → i < length out → getD out i (pos 0) ≡ getD vs (from + 2 * i) outOfRange)
+      → take (inColumn (length vs) from) out ≡ everyOther (drop from vs)
+  column-is out h each =
+      let n = inColumn (length vs) from in
+      ext-getD outOfRange (take n out) (everyOther (drop from vs)) (length-take-le n out h ∙ sym length-column)
+      (λ i under.
+      let k : i < n = omega (arith, length-take-le n out h) in
+      getD-take n out i outOfRange k
+      ∙ getD-any out i outOfRange (pos 0) (omega arith)
+      ∙ each i (omega arith)
+      ∙ sym (getD-everyOther (drop from vs) i outOfRange ∙ getD-drop from vs (2 * i) outOfRange))

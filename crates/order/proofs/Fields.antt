@@ -1,0 +1,122 @@
+-- The fields of a line one by one.
+-- Assumes nothing.
+use Prim.Native.Nat.{ℕ, suc, _+_, _-_, _≤_, _<_}
+use native.Mathlib.Numerals.{add-one}
+use native.Mathlib.Omega.{arith}
+use mathlib.Core.Path.{_≡_, refl, sym, ap, _∙_}
+use mathlib.Core.List.{List, [], _∷_}
+use lib.Dec.{eqb}
+use lib.ListN.{length, getD, take, drop, length-drop, List·getD-map, List·getD-eq-default}
+use lib.Seq.{drop-cons, drop-drop, getD-drop}
+use borrow.Author.Tests.{eq-eqb, ne-eqb}
+use Rattle.order.specs.Numbers.{outOfRange, fieldOf}
+use Rattle.order.specs.Orders.{comma, withFirst, fields, values}
+use Rattle.order.specs.Steps.{upTo}
+use Rattle.rules.proofs.Tests.{by-test}
+
+-- THE FIRST FIELD
+
+-- with no comma, it is the only one
+last-field : (t : List ℕ) → upTo t ≡ length t → fields t ≡ t ∷ []
+last-field [] e = refl
+last-field (b ∷ t) e =
+    by-test (eqb b comma) (λ y. absurd (omega (arith, rw y at e)))
+    (λ n. let k : suc (upTo t) ≡ suc (length t) = rw n at e in rw (n, last-field t (omega arith)))
+
+-- with one, others follow
+field-then : (t : List ℕ) → upTo t < length t → fields t ≡ take (upTo t) t ∷ fields (drop (suc (upTo t)) t)
+field-then [] h = absurd (omega arith)
+field-then (b ∷ t) h =
+    by-test (eqb b comma) (λ y. rw y)
+    (λ n. let k : suc (upTo t) < suc (length t) = rw n at h in rw (n, field-then t (omega arith)))
+
+-- either way it stands first
+first-withFirst : (b : ℕ) (fs : List (List ℕ)) → getD (withFirst b fs) 0 [] ≡ b ∷ getD fs 0 []
+first-withFirst b [] = refl
+first-withFirst b (f ∷ fs) = refl
+
+first-field : (t : List ℕ) → getD (fields t) 0 [] ≡ take (upTo t) t
+first-field [] = refl
+first-field (b ∷ t) =
+    by-test (eqb b comma) (λ y. rw y)
+    (λ n. rw n (first-withFirst b (fields t) ∙ ap (λ (f : List ℕ). b ∷ f) (first-field t)))
+
+-- FROM BYTE i ON
+
+module _ (s : List ℕ) (i : ℕ) (there : i < length s) where
+  pub at-comma : getD s i 0 ≡ comma → upTo (drop i s) ≡ 0
+  at-comma e = rw (drop-cons s i 0, eq-eqb (getD s i 0) comma e)
+
+  pub no-comma : (getD s i 0 ≡ comma → ⊥) → upTo (drop i s) ≡ suc (upTo (drop (i + 1) s))
+  no-comma e = rw (add-one, drop-cons s i 0, ne-eqb (getD s i 0) comma e)
+
+-- HOW MANY
+
+length-withFirst : (b : ℕ) (fs : List (List ℕ)) → 0 < length fs → length (withFirst b fs) ≡ length fs
+length-withFirst b [] h = absurd (omega arith)
+length-withFirst b (f ∷ fs) h = refl
+
+some-field : (s : List ℕ) → 0 < length (fields s)
+some-field [] = omega arith
+some-field (b ∷ s) =
+    by-test (eqb b comma) (λ e. rw e (omega arith))
+    (λ e. rw e (omega (arith, length-withFirst b (fields s) (some-field s), some-field s)))
+
+module _ (s : List ℕ) (i : ℕ) (there : i < length s) where
+  pub one-more : getD s i 0 ≡ comma → length (fields (drop i s)) ≡ suc (length (fields (drop (i + 1) s)))
+  one-more e = rw (add-one, drop-cons s i 0, eq-eqb (getD s i 0) comma e)
+
+  pub no-more : (getD s i 0 ≡ comma → ⊥) → length (fields (drop i s)) ≡ length (fields (drop (i + 1) s))
+  no-more e =
+      rw (add-one, drop-cons s i 0, ne-eqb (getD s i 0) comma e)
+      (length-withFirst (getD s i 0) (fields (drop (suc i) s)) (some-field (drop (suc i) s)))
+
+-- THE VALUE OF A FIELD
+
+-- k fields have passed, and the next starts at byte a
+pub record At (s : List ℕ) (k a : ℕ) : Type 0 where
+  pub within : a ≤ length s
+  pub left : fields (drop a s) ≡ drop k (fields s)
+
+pub at-start : (s : List ℕ) → At s 0 0
+at-start s = record { within = omega arith; left = refl }
+
+value-at : (s : List ℕ) (j : ℕ) → getD (values s) j outOfRange ≡ fieldOf (getD (fields s) j [])
+unfolding values fieldOf
+value-at s j = List·getD-map fieldOf (fields s) j []
+
+module _ (s : List ℕ) (k a : ℕ) (here : At s k a) where
+  abbrev rest : List ℕ
+  rest = drop a s
+
+  pub at-next : a + upTo rest < length s → At s (k + 1) (a + upTo rest + 1)
+  at-next h = record {
+    within = omega arith;
+    left =
+        let n : a + suc (upTo rest) ≡ a + upTo rest + 1 = omega arith in
+        sym (
+        sym (drop-drop 1 k (fields s))
+        ∙ ap (drop 1) (sym (here .left) ∙ field-then rest (omega (arith, length-drop a s)))
+        ∙ ap fields (drop-drop (suc (upTo rest)) a s ∙ ap (λ (i : ℕ). drop i s) n)
+        );
+  }
+
+  -- the field that is here
+  pub value-here : getD (values s) k outOfRange ≡ fieldOf (take (upTo rest) rest)
+  value-here =
+      let n : k + 0 ≡ k = omega arith in
+      value-at s k
+      ∙ ap fieldOf (
+      ap (λ (i : ℕ). getD (fields s) i []) (sym n)
+      ∙ sym (getD-drop k (fields s) 0 [])
+      ∙ ap (λ (fs : List (List ℕ)). getD fs 0 []) (sym (here .left))
+      ∙ first-field rest
+      )
+
+  -- none after the last
+  pub value-past : (j : ℕ) → k < j → a + upTo rest ≡ length s → getD (values s) j outOfRange ≡ outOfRange
+  unfolding fieldOf
+  value-past j h e =
+      let one : length (drop k (fields s)) ≡ 1
+      = ap length (sym (here .left) ∙ last-field rest (omega (arith, length-drop a s))) in
+      value-at s j ∙ ap fieldOf (List·getD-eq-default (fields s) [] (omega (arith, length-drop k (fields s))))

@@ -1,0 +1,6 @@
+-- What the proofs of `order` share.
+pub mod Cases
+pub mod Digits
+pub mod Fields
+pub mod Columns
+pub mod Asked

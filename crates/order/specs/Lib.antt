@@ -1,0 +1,4 @@
+-- A line of text as an order, to be read in this order. Nothing is proved here.
+pub mod Numbers
+pub mod Orders
+pub mod Steps

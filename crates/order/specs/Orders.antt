@@ -1,0 +1,56 @@
+-- A line of text as an order, `e,p,m,K,N1,L1,N2,L2,..`, and the quote that it asks for.
+-- Assumes nothing.
+use Prim.Native.Nat.{ℕ}
+use mathlib.Core.Bool.{cond}
+use mathlib.Core.List.{List, [], _∷_, map}
+use lib.Dec.{eqb, ltb}
+use lib.IntN.{ℤ}
+use lib.ListN.{length, getD, drop}
+use Rattle.rules.specs.Refusals.{badLines}
+use Rattle.rules.specs.Quote.{Order, Quote, refusedQuote, quote}
+use Rattle.order.specs.Numbers.{outOfRange, fieldOf}
+
+-- FIELDS
+
+abbrev pub comma : ℕ
+comma = 44
+
+abbrev pub withFirst : ℕ → List (List ℕ) → List (List ℕ)
+withFirst b [] = (b ∷ []) ∷ []
+withFirst b (f ∷ fs) = (b ∷ f) ∷ fs
+
+-- The fields are separated by commas. (An empty line has one, which is empty: that is answered as no field is.)
+abbrev pub fields : List ℕ → List (List ℕ)
+fields [] = [] ∷ []
+fields (b ∷ s) = cond (eqb b comma) ([] ∷ fields s) (withFirst b (fields s))
+
+unfoldable pub values : List ℕ → List ℤ
+values s = map fieldOf (fields s)
+
+-- ORDERS
+
+-- the first, the third, and so on
+abbrev pub everyOther : List ℤ → List ℤ
+everyOther [] = []
+everyOther (x ∷ []) = x ∷ []
+everyOther (x ∷ y ∷ l) = x ∷ everyOther l
+
+-- A missing one of the first four is out of range at its place. Then N and L by turns: with an odd number of line
+-- fields the columns differ in length.
+abbrev pub orderFrom : List ℤ → Order
+orderFrom fs =
+    record {
+      work = getD fs 0 outOfRange;
+      period = getD fs 1 outOfRange;
+      size = getD fs 2 outOfRange;
+      clusters = getD fs 3 outOfRange;
+      calls = everyOther (drop 4 fs);
+      caps = everyOther (drop 5 fs);
+    }
+
+-- An order of more than 1,023 bytes is refused as one of too many lines is.
+abbrev pub maxBytes : ℕ
+maxBytes = 1023
+
+unfoldable pub asked : List ℕ → Quote
+asked s = cond (ltb maxBytes (length s)) (refusedQuote badLines 0) (quote (orderFrom (values s)))

@@ -1,0 +1,84 @@
+// A field's text as a number.
+ghost use mathlib.Core.Path.{_≡_};
+ghost use Rattle.order.specs.Numbers.{fieldOf, digits};
+ghost use Rattle.order.specs.Steps.{sized, positive as Steps·positive, negative as Steps·negative};
+
+const MINUS: u8 = 45;
+
+const ZERO: u8 = 48;
+
+const NINE: u8 = 57;
+// Past every size of a 64-bit number: 2^63 + 1.
+const TOO_LARGE: u64 = 9223372036854775809;
+// Above this, one more digit is past them too.
+const MOST_BEFORE: u64 = 922337203685477580;
+
+// The number, or -1 where it is none or does not fit.
+pub fn field_value(f: &[u8]) -> i64
+    ensures { λ r. ⌜ r ≡ fieldOf (now (f .entry)) ⌝ }
+{
+    if f.len() == 0 {
+        return -1;
+    }
+    if f[0] == MINUS {
+        negative(size(&f[1..]))
+    } else {
+        positive(size(f))
+    }
+}
+
+// The number that digits spell, if they do and it is at most 2^63.
+fn size(f: &[u8]) -> u64
+    ensures { λ r. ⌜ r ≡ sized (digits (now (f .entry))) ⌝ }
+{
+    if f.len() == 0 {
+        return TOO_LARGE;
+    }
+    let mut n: u64 = 0;
+    let mut i = 0;
+    while i < f.len() {
+        let b = f[i];
+        if b < ZERO {
+            return TOO_LARGE;
+        }
+        if NINE < b {
+            return TOO_LARGE;
+        }
+        if MOST_BEFORE < n {
+            return TOO_LARGE;
+        }
+        n = n * 10 + (wide(b) - 48);
+        i += 1;
+    }
+    n
+}
+
+fn wide(b: u8) -> u64
+    ensures { λ r. ⌜ r ≡ b ⌝ }
+{
+    b as u64
+}
+
+fn positive(n: u64) -> i64
+    ensures { λ r. ⌜ r ≡ Steps·positive n ⌝ }
+{
+    if n < 9223372036854775808 {
+        n as i64
+    } else {
+        -1
+    }
+}
+
+fn negative(n: u64) -> i64
+    ensures { λ r. ⌜ r ≡ Steps·negative n ⌝ }
+{
+    if n == 0 {
+        return 0;
+    }
+    let k = n - 1;
+    if k < 9223372036854775808 {
+        -1 - (k as i64)
+    } else {
+        -1
+    }
+}

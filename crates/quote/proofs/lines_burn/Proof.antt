@@ -1,0 +1,99 @@
+-- `quote::lines_burn` meets its contract. The loop's invariant: the sum and what the lines that are left burn make
+-- what all lines burn.
+-- Assumes nothing.
+use Prim.Native.Nat.{_+_, _*_, _-_, _≤_}
+use native.Mathlib.Omega.{arith}
+use mathlib.Core.Path.{_≡_, _∙_}
+use lib.ListN.{length, drop}
+use lib.IntN.{natAbs}
+use Rattle.rules.specs.Demands.{worst}
+use Rattle.rules.specs.Limits.{maxCalls, maxCap}
+use Rattle.rules.specs.Quote.{burnt}
+use Rattle.quote.specs.Steps.{mostOfLine}
+use Rattle.quote.proofs.Ranges.{same-range, read-back}
+use Rattle.quote.proofs.Lines.{at, line-in, line-burnt, none-burnt}
+use Rattle.quote.proofs.lines_burn.Statement.{statement}
+use Rattle.quote.proofs.lines_burn.Tie as tie
+
+abbrev Inv-loop : tie.InvT-loop
+Inv-loop m k calls caps sum₀ i₀ sum i =
+    (i ≤ length calls)
+    × (sum + burnt m k (drop i calls) (drop i caps) ≡ burnt m k calls caps)
+    × (sum ≤ i * mostOfLine)
+
+abbrev μ-loop : tie.MeasureT-loop
+μ-loop m k calls caps sum₀ i₀ sum i = length calls - i
+
+loop-holds : tie.Need-loop-holds Inv-loop μ-loop
+loop-holds c = omega arith
+
+mul-line-burns : tie.Need-mul-line-burns Inv-loop μ-loop
+mul-line-burns c = omega arith
+
+shared-slice-copy-out-line-burns : tie.Need-shared-slice-copy-out-line-burns Inv-loop μ-loop
+shared-slice-copy-out-line-burns c = omega arith
+
+mul-line-burns-2 : tie.Need-mul-line-burns-2 Inv-loop μ-loop
+mul-line-burns-2 c = omega arith
+
+shared-slice-copy-out-line-burns-2 : tie.Need-shared-slice-copy-out-line-burns-2 Inv-loop μ-loop
+shared-slice-copy-out-line-burns-2 c = omega arith
+
+line-burns-requires : tie.Need-line-burns-requires Inv-loop μ-loop
+line-burns-requires c κs = let a = c .before .before .before .before in
+    let i = c .before .before .before .loop .i in
+    let l = line-in (a .args .calls .now) (a .args .caps .now) i (omega arith) (a .pre .1 .1) in (
+      a .pre .0,
+      (
+        same-range 0 maxCalls (at (a .args .calls .now) i) (c .before .line-burns-arg .given) ∙ l .calls,
+        same-range 1 maxCap (at (a .args .caps .now) i) (c .line-burns-arg2 .given) ∙ l .cap,
+      ),
+    )
+
+add-sum : tie.Need-add-sum Inv-loop μ-loop
+add-sum c = omega arith
+
+add-i : tie.Need-add-i Inv-loop μ-loop
+add-i c = omega arith
+
+loop-less : tie.Need-loop-less Inv-loop μ-loop
+loop-less c = omega arith
+
+-- what the line burns, of the numbers themselves
+burns : (c : tie.After-line-burns Inv-loop μ-loop) → let l = c .before .before .before .before in
+    let a = l .before .args in
+    c .line-burns .result
+    ≡ natAbs (at (a .calls .now) (l .loop .i)) * worst (a .m) (a .k) (natAbs (at (a .caps .now) (l .loop .i)))
+burns c = let a = c .before .before .before .before .before .args in
+    let i = c .before .before .before .before .loop .i in
+    let n = read-back (at (a .calls .now) i) (c .before .before .line-burns-arg .given) in
+    let l = read-back (at (a .caps .now) i) (c .before .line-burns-arg2 .given) in
+    c .line-burns .ensures .0 ∙ rw (n, l)
+
+loop-again : tie.Need-loop-again Inv-loop μ-loop
+loop-again c = let a = c .before .before .before .before .before .args in
+    let i = c .before .before .before .before .loop .i in
+    let e = line-burnt (a .calls .now) (a .caps .now) i (omega arith) (omega arith) (a .m) (a .k) in
+    omega (arith, e, burns c)
+
+returns : tie.Need-returns Inv-loop μ-loop
+returns c = let a = c .before .before .args in
+    omega (arith, none-burnt (a .calls .now) (a .caps .now) (c .before .loop .i) (omega arith) (a .m) (a .k))
+
+pub lines-burn-spec : {M : Type 1} → statement M
+lines-burn-spec =
+    tie.close
+    (tie.spec
+    Inv-loop
+    μ-loop
+    loop-holds
+    mul-line-burns
+    shared-slice-copy-out-line-burns
+    mul-line-burns-2
+    shared-slice-copy-out-line-burns-2
+    line-burns-requires
+    add-sum
+    add-i
+    loop-less
+    loop-again
+    returns)

@@ -1,0 +1,2 @@
+-- Numbers as text, and text in a lent buffer. Nothing is proved here.
+pub mod Text

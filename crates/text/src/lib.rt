@@ -1,0 +1,40 @@
+// Text in a lent buffer: bytes and numbers, each written from a place on. A caller sees to it that there is room.
+
+ghost use mathlib.Core.Path.{_≡_};
+ghost use mathlib.Core.List.{_∷_, []};
+ghost use Prim.Native.Nat.{_+_, _≤_, _<_};
+ghost use lib.ListN.{length};
+ghost use Rattle.text.specs.Text.{decimal, WroteAt};
+
+// One byte at a place.
+pub fn put_byte(out: &mut [u8], at: usize, b: u8) -> usize
+    requires { ⌜ at < length (now out) ⌝ }
+    ensures { λ r. ⌜ WroteAt at (b ∷ []) (now (out .entry)) (now (out .exit)) r ⌝ }
+{
+    out[at] = b;
+    at + 1
+}
+
+// Some bytes from a place on.
+pub fn put_bytes(out: &mut [u8], at: usize, s: &[u8]) -> usize
+    requires { ⌜ at + length (now s) ≤ length (now out) ⌝ }
+    ensures { λ r. ⌜ WroteAt at (now (s .entry)) (now (out .entry)) (now (out .exit)) r ⌝ }
+{
+    let mut i = 0;
+    while i < s.len() {
+        out[at + i] = s[i];
+        i += 1;
+    }
+    at + i
+}
+
+// The digits of a number from a place on.
+pub fn put_number(out: &mut [u8], at: usize, n: u64) -> usize
+    requires { ⌜ at + 20 ≤ length (now out) ⌝ }
+    ensures { λ r. ⌜ WroteAt at (decimal n) (now (out .entry)) (now (out .exit)) r ⌝ }
+    ensures { λ r. ⌜ r ≤ at + 20 ⌝ }
+{
+    let mut digits = [0u8; 20];
+    let k = io::decimal(n, &mut digits);
+    put_bytes(out, at, &digits[..k])
+}
