@@ -30,7 +30,7 @@ use Rattle.gate.specs.Made.{trimmedIn}
 use Rattle.gate.proofs.Zeros.{zeros-at}
 use Rattle.gate.proofs.Reading.{state-back}
 
-server-back : (x : state.Server) → serverOf (showServer x) ≡ x
+pub server-back : (x : state.Server) → serverOf (showServer x) ≡ x
 server-back idle = refl
 server-back (front c) = refl
 server-back (best c) = refl

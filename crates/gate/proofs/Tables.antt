@@ -2,7 +2,7 @@
 -- Assumes nothing.
 use Prim.Native.Nat.{ℕ, zero, suc, _≤_, _<_}
 use mathlib.Core.Path.{_≡_, refl, ap, ap₂, _∙_}
-use mathlib.Core.List.{List, [], _∷_}
+use mathlib.Core.List.{List, [], _∷_, _++_}
 use native.Mathlib.Omega.{arith}
 use lib.Dec.{eqb·zero-suc, eqb·suc-zero, eqb·suc-suc}
 use lib.ListN.{length, getD, set}
@@ -51,3 +51,9 @@ pub list-table : {A : Type 0} (l : List A) (d : A) → l ≡ table (length l) (�
 unfolding table
 list-table [] d = refl
 list-table (x ∷ l) d = ap (λ t. x ∷ t) (list-table l d)
+
+-- one place more at the end
+pub table-snoc : {A : Type 0} (n : ℕ) (f : ℕ → A) → table (suc n) f ≡ table n f ++ (f n ∷ [])
+unfolding table
+table-snoc zero f = refl
+table-snoc (suc n) f = ap (λ l. f 0 ∷ l) (table-snoc n (λ i. f (suc i)))

@@ -5,7 +5,7 @@ ghost use mathlib.Core.Path.{_≡_};
 ghost use Rattle.places.specs.Places.{placeOf, usedOf, appendOf, closeUpOf, takeOutOf};
 
 // What an unused place holds.
-const UNUSED: u8 = 255;
+pub const UNUSED: u8 = 255;
 
 // The first place that holds x, or the number of places if none does. Of 255: the first unused place.
 pub fn find(q: &[u8], x: u8) -> usize

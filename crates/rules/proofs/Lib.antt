@@ -44,3 +44,4 @@ pub mod SoundStates
 pub mod Steps
 pub mod Reached
 pub mod Limit
+pub mod Replays

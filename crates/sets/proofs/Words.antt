@@ -50,6 +50,11 @@ module _ (n s c : ℕ) (h : s < 2 ^ n) (l : c < n) where
       less false true = refl
       less false false = refl
 
+-- the bits of both words
+pub or-both : (n s t : ℕ) → s < 2 ^ n → t < 2 ^ n → bitOr s t ≡ setOf n (λ (j : ℕ). member s j || member t j)
+or-both n s t hs ht =
+    is-setOf n (bitOr s t) (λ (j : ℕ). member s j || member t j) (or-lt n s t hs ht) (λ j m. member-or s t j)
+
 -- the bits of a set are counted as its members
 pub ones-setOf : (n : ℕ) (p : ℕ → Bool) → ones (setOf n p) ≡ count p n
 unfolding setOf ones

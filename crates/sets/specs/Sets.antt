@@ -1,7 +1,7 @@
 -- What a word means as a set, and what the functions of this crate answer.
 -- Assumes nothing.
 use Prim.Native.Nat.{ℕ, zero, suc, _+_, _/_, _%_, _^_}
-use mathlib.Core.Bool.{Bool, true, false, cond}
+use mathlib.Core.Bool.{Bool, true, false, _||_, cond}
 use lib.Dec.{eqb}
 use Rattle.rules.specs.Limits.{maxClients}
 use Rattle.rules.specs.Lists.{upd, count}
@@ -22,6 +22,10 @@ withOf s c = setOf maxClients (upd (member s) c true)
 -- the set s of clients, without c
 abbrev pub withoutOf : ℕ → ℕ → ℕ
 withoutOf s c = setOf maxClients (upd (member s) c false)
+
+-- the clients of s and of t
+abbrev pub unionOf : ℕ → ℕ → ℕ
+unionOf s t = setOf maxClients (λ (c : ℕ). member s c || member t c)
 
 -- how many clients are in the set s
 unfoldable pub countOf : ℕ → ℕ

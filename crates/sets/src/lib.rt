@@ -2,7 +2,7 @@
 // A number of 64 or more is no client's: it is in no set, and joins and leaves none.
 
 ghost use mathlib.Core.Path.{_≡_};
-ghost use Rattle.sets.specs.Sets.{member, withOf, withoutOf, countOf};
+ghost use Rattle.sets.specs.Sets.{member, withOf, withoutOf, unionOf, countOf};
 
 // The bits of a word.
 const WIDTH: usize = 64;
@@ -31,6 +31,13 @@ pub fn without(s: u64, c: usize) -> u64
     } else {
         s
     }
+}
+
+// The members of both.
+pub fn union(s: u64, t: u64) -> u64
+    ensures { λ r. ⌜ r ≡ unionOf s t ⌝ }
+{
+    s | t
 }
 
 // How many are in the set.

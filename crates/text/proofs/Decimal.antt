@@ -1,14 +1,16 @@
 -- The fewest digits that hold a number spell it in decimal, and there are at most 20.
 -- Assumes nothing.
-use Prim.Native.Nat.{ℕ, zero, suc, _-_, _*_, _/_, _%_, _^_, _≤_, _<_}
+use Prim.Native.Nat.{ℕ, zero, suc, _+_, _-_, _*_, _/_, _%_, _^_, _≤_, _<_}
 use native.Mathlib.Nat.{pow-suc, one-le-pow, pow-le-pow-right}
 use native.Mathlib.Omega.{arith}
 use mathlib.Core.Path.{_≡_}
+use mathlib.Core.List.{List, [], _∷_, _++_}
 use lib.Dec.{ltb}
+use lib.ListN.{length, length-append}
 use borrow.Author.Tests.{lt-ltb, le-ltb, ltb-true, ltb-false}
 use Rattle.rules.proofs.Tests.{by-test}
 use Rattle.io.specs.Digits.{digits, Fewest}
-use Rattle.text.specs.Text.{decimalIn, decimal}
+use Rattle.text.specs.Text.{firstDigit, decimalIn, decimal}
 
 sub-suc-one : (j : ℕ) → suc j - 1 ≡ j
 sub-suc-one j = omega arith
@@ -51,3 +53,22 @@ digits-most k n h w =
     let more : 10 ^ 20 ≤ 10 ^ (k - 1) = pow-le-pow-right {n = 10} (omega arith) {i = 20} {j = k - 1} (omega arith) in
     absurd (omega (arith, w .2 (omega arith))))
     (λ f. ltb-false 20 k f)
+
+-- a number below 10^k has at most k digits: the last, and those of n / 10
+one-more : (k n : ℕ) (l : List ℕ) → n < 10 ^ suc k → 10 ≤ n
+    → ((j : ℕ) → n / 10 < 10 ^ suc j → length l ≤ suc j) → length (l ++ ((firstDigit + n % 10) ∷ [])) ≤ suc k
+one-more zero n l h big low = absurd (omega arith)
+one-more (suc k) n l h big low =
+    let most : n < 10 ^ suc k * 10 = rw (pow-suc 10 (suc k)) at h in
+    omega (arith, low k (omega arith), length-append l ((firstDigit + n % 10) ∷ []))
+
+short-in : (f k n : ℕ) → n < 10 ^ suc k → length (decimalIn f n) ≤ suc k
+short-in zero k n h = omega arith
+short-in (suc f) k n h =
+    by-test (ltb n 10)
+    (λ y. rw y (omega arith))
+    (λ y. rw y (one-more k n (decimalIn f (n / 10)) h (ltb-false n 10 y) (λ j b. short-in f j (n / 10) b)))
+
+pub decimal-short : (k n : ℕ) → n < 10 ^ suc k → length (decimal n) ≤ suc k
+unfolding decimal
+decimal-short k n h = short-in 20 k n h

@@ -40,7 +40,8 @@ loop-again c =
     let a = o .before .args in (
       omega arith,
       length-set (o .loop .out) (a .at + o .loop .i) _ ∙ o .loop .inv .1,
-      copied (a .out .now) (o .loop .out) (a .s .now) (a .at) (o .loop .i) (omega arith) (omega arith) (o .loop .inv .2),
+      copied (a .out .now) (o .loop .out) (a .s .now) (a .at) (o .loop .i)
+          (omega arith) (omega arith) (o .loop .inv .2),
     )
 
 add-result : tie.Need-add-result Inv-loop μ-loop

@@ -36,7 +36,8 @@ returns c =
     let d = p .before .before .before in
     let s = d .before .before .before in
     let few = digits-most (d .decimal .result) (s .args .n) (s .fits .n .fits) (d .decimal .ensures .1 .0) in
-    let spelt = d .decimal .ensures .1 .1 ∙ decimal-is (d .decimal .result) (s .args .n) few (d .decimal .ensures .1 .0) in (
+    let spelt = d .decimal .ensures .1 .1
+    ∙ decimal-is (d .decimal .result) (s .args .n) few (d .decimal .ensures .1 .0) in (
       subst (λ (t : List ℕ). WroteAt (s .args .at) t (s .args .out .now) (p .put-bytes .last .0) (p .put-bytes .result))
           spelt (p .put-bytes .ensures),
       omega (arith, p .put-bytes .ensures .ends, d .decimal .ensures .0 .1),

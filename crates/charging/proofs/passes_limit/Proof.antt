@@ -1,0 +1,17 @@
+-- `charging::passes_limit` meets its contract.
+-- Assumes nothing.
+use native.Mathlib.Omega.{arith}
+use borrow.Author.Needs.{needs}
+use Rattle.rules.specs.Limits.{maxCharge}
+use Rattle.charging.proofs.Growing.{past-is}
+use Rattle.charging.proofs.passes_limit.Statement.{statement}
+use Rattle.charging.proofs.passes_limit.Tie as tie
+
+sub-result : tie.Need-sub-result
+sub-result c = search needs
+
+returns : tie.Need-returns
+returns c = past-is maxCharge (c .args .charge) (c .args .n) (omega arith)
+
+pub passes-limit-spec : {M : Type 1} → statement M
+passes-limit-spec = tie.close (tie.spec sub-result returns)

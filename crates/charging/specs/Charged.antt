@@ -1,0 +1,31 @@
+-- Who waits, who is charged and what a charge becomes, over places, sets and priorities.
+-- Assumes nothing.
+use Prim.Native.Nat.{ℕ, _+_}
+use mathlib.Core.Bool.{Bool, _&&_, _||_, cond}
+use mathlib.Core.List.{List}
+use lib.Dec.{ltb}
+use lib.ListN.{getD}
+use Rattle.rules.specs.Limits.{maxClients, maxCharge}
+use Rattle.rules.specs.Lists.{has, count}
+use Rattle.sets.specs.Sets.{member, setOf}
+use Rattle.rows.specs.Ranks.{rankBy}
+
+-- those in the places of a line, and those in a room
+abbrev pub waitingIn : List ℕ → ℕ → ℕ
+waitingIn q room = setOf maxClients (λ (c : ℕ). has c q || member room c)
+
+-- d is in the waiting set and outranks c
+abbrev pub precedesIn : List ℕ → ℕ → ℕ → ℕ → Bool
+precedesIn ps waiting c d = member waiting d && rankBy ps d c
+
+-- c is in the waiting set, and fewer than m clients below n that are there too outrank it
+abbrev pub chargedIn : List ℕ → ℕ → ℕ → ℕ → ℕ → Bool
+chargedIn ps waiting n m c = member waiting c && ltb (count (precedesIn ps waiting c) n) m
+
+-- c is in the set, and n units more would carry its charge past the limit
+abbrev pub overchargesIn : List ℕ → ℕ → ℕ → ℕ → Bool
+overchargesIn charges s n c = member s c && ltb maxCharge (getD charges c 0 + n)
+
+-- the charge of c, with n units more if it is in the set and below m
+abbrev pub grown : List ℕ → ℕ → ℕ → ℕ → ℕ → ℕ
+grown charges s n m c = getD charges c 0 + cond (ltb c m && member s c) n 0

@@ -1,0 +1,2 @@
+-- What the demands are stated with. Nothing is proved here.
+pub mod Histories

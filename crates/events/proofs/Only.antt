@@ -1,0 +1,62 @@
+-- No second answer fits: the promise of an event's function leaves one result.
+-- Assumes nothing.
+use Prim.Native.Nat.{ℕ}
+use mathlib.Core.Bool.{cond}
+use mathlib.Core.Path.{_∙_, _≡_, ap, ap₂, refl, sym}
+use lib.Dec.{eqb}
+use Rattle.rules.specs.Events.{Event}
+use Rattle.rules.specs.Refusals.{accepted, bestEffort, noClient, notWaiting, runOfNone, runPastCap, serverIdle}
+use Rattle.rules.specs.Refusals.{spentAlready, unknownRecord, waitsAlready}
+use Rattle.rules.specs.State.{State}
+use Rattle.rules.specs.Step.{answer, step}
+use Rattle.gate.specs.Shown.{setupOf, shown}
+use Rattle.gate.specs.declared.Gate.{Gate}
+use Rattle.gate.specs.declared.Setup.{Setup}
+use Rattle.gate.proofs.Reading.{shows-is}
+use Rattle.events.specs.Answers.{Answers, numberOf}
+use Rattle.events.specs.declared.Answer.{Answer}
+use Rattle.events.specs.declared.Answered.{Answered}
+use Rattle.events.specs.declared.Answer.the-variants as is
+
+-- the case of a number; of a number that no case has, any
+answerOf : ℕ → Answer
+answerOf n =
+    cond (eqb n accepted) is.Accepted
+    (cond (eqb n noClient) is.NoClient
+    (cond (eqb n waitsAlready) is.WaitsAlready
+    (cond (eqb n serverIdle) is.ServerIdle
+    (cond (eqb n runOfNone) is.RunOfNone
+    (cond (eqb n runPastCap) is.RunPastCap
+    (cond (eqb n notWaiting) is.NotWaiting
+    (cond (eqb n bestEffort) is.BestEffort
+    (cond (eqb n spentAlready) is.SpentAlready
+    (cond (eqb n unknownRecord) is.Unknown
+    is.Unsound)))))))))
+
+number-back : (a : Answer) → answerOf (numberOf a) ≡ a
+unfolding answerOf
+number-back is.Accepted = refl
+number-back is.NoClient = refl
+number-back is.WaitsAlready = refl
+number-back is.ServerIdle = refl
+number-back is.RunOfNone = refl
+number-back is.RunPastCap = refl
+number-back is.NotWaiting = refl
+number-back is.BestEffort = refl
+number-back is.SpentAlready = refl
+number-back is.Unknown = refl
+number-back is.Unsound = refl
+
+-- each case has a number of its own
+pub one-answer : (a b : Answer) → numberOf a ≡ numberOf b → a ≡ b
+one-answer a b e = sym (number-back a) ∙ ap answerOf e ∙ number-back b
+
+-- the gate after is the shown form of the state after
+pub gate-is : {v : Setup} {s : State} {e : Event} {r : Answered} → Answers v s e r
+    → r .gate ≡ shown v (step (setupOf v) s e)
+gate-is {v} {s} {e} {r} h = shows-is v (step (setupOf v) s e) (r .gate) (h .shows)
+
+pub one-result : {v : Setup} {s : State} {e : Event} (r t : Answered) → Answers v s e r → Answers v s e t → r ≡ t
+one-result r t h k =
+    ap₂ (λ (a : Answer) (g : Gate). record { answer = a; gate = g })
+    (one-answer (r .answer) (t .answer) (h .number ∙ sym (k .number))) (gate-is h ∙ sym (gate-is k))

@@ -1,0 +1,130 @@
+-- The answers to events, from the tests that the code makes, in their order.
+-- Assumes nothing.
+use Prim.Native.Nat.{_+_, _<_, _≤_, ℕ}
+use mathlib.Core.Bool.{Bool, false, true}
+use mathlib.Core.Path.{_∙_, _≡_, ap, ap₂}
+use native.Mathlib.Omega.{arith}
+use lib.Dec.{leb, ltb}
+use borrow.Author.Tests.{eq-eqb, le-leb, lt-leb, ne-eqb}
+use Rattle.rules.specs.Events.{abort, invoke, reply, run}
+use Rattle.rules.specs.Limits.{maxClients}
+use Rattle.rules.specs.Queues.{waits}
+use Rattle.rules.specs.Refusals.{accepted, bestEffort, noClient, notWaiting, runOfNone, runPastCap, serverIdle}
+use Rattle.rules.specs.Refusals.{spentAlready, waitsAlready}
+use Rattle.rules.specs.Setup.{realTime}
+use Rattle.rules.specs.State.{State, isIdle, isSpent}
+use Rattle.rules.specs.Step.{answer, next, overcharges, present, step}
+use Rattle.rules.proofs.Tests.{by-test}
+use Rattle.gate.specs.Shown.{serverOf, setupOf}
+use Rattle.gate.specs.Shows.{Shows}
+use Rattle.gate.specs.declared.Gate.{Gate}
+use Rattle.gate.specs.declared.Setup.{Setup}
+use Rattle.presence.proofs.Here.{kind-is}
+use Rattle.events.specs.Answers.{Answers, Charges}
+use Rattle.events.specs.declared.Answered.{Answered}
+
+module _ {v : Setup} {s : State} {g : Gate} (h : Shows v s g) where
+  -- INVOKE
+
+  module _ (c : ℕ) {n i : ℕ} (clients : n ≡ g .setup .clients) (index : i ≡ c) where
+    clients-is : n ≡ v .clients
+    clients-is = clients ∙ ap (λ u. u .clients) (h .setup)
+
+    pub client-known : i < n → c < maxClients
+    client-known b = omega (arith, clients-is, h .fine .clients)
+
+    pub invoke-unknown : n ≤ i → answer (setupOf v) s (invoke c) ≡ noClient
+    unfolding answer
+    invoke-unknown b = rw (le-leb (v .clients) c (omega (arith, clients-is)))
+
+    pub abort-unknown : n ≤ i → answer (setupOf v) s (abort c) ≡ noClient
+    unfolding answer
+    abort-unknown b = rw (le-leb (v .clients) c (omega (arith, clients-is)))
+
+    module _ (known : i < n) where
+      known-is : leb (v .clients) c ≡ false
+      known-is = lt-leb (v .clients) c (omega (arith, clients-is))
+
+      pub invoke-present : {b : Bool} → b ≡ present (setupOf v) s c → b ≡ true
+          → answer (setupOf v) s (invoke c) ≡ waitsAlready
+      unfolding answer
+      invoke-present e t = rw (known-is, ← e, t)
+
+      pub invoke-fine : {b : Bool} → b ≡ present (setupOf v) s c → b ≡ false
+          → answer (setupOf v) s (invoke c) ≡ accepted
+      unfolding answer
+      invoke-fine e t = rw (known-is, ← e, t)
+
+      -- ABORT
+
+      module _ {r : Bool} (kind : r ≡ realTime (setupOf (g .setup)) c) where
+        real-is : r ≡ realTime (setupOf v) c
+        real-is = kind-is h c kind
+
+        pub abort-effort : r ≡ false → answer (setupOf v) s (abort c) ≡ bestEffort
+        unfolding answer
+        abort-effort t = rw (known-is, ← real-is, t)
+
+        module _ (real : r ≡ true) {p : Bool} (served : p ≡ isSpent (serverOf (g .server)) c) where
+          served-is : p ≡ isSpent (s .server) c
+          served-is = served ∙ ap (λ x. isSpent x c) (h .server)
+
+          pub abort-spent : p ≡ true → answer (setupOf v) s (abort c) ≡ spentAlready
+          unfolding answer
+          abort-spent t =
+              rw (known-is, ← real-is, real, ← served-is, t)
+              (by-test (waits (setupOf v) s c) (λ q. rw q) (λ q. rw q))
+
+          module _ (other : p ≡ false) {w : Bool} (waiting : w ≡ waits (setupOf v) s c) where
+            pub abort-absent : w ≡ false → answer (setupOf v) s (abort c) ≡ notWaiting
+            unfolding answer
+            abort-absent t = rw (known-is, ← real-is, real, ← served-is, other, ← waiting, t)
+
+            pub abort-fine : w ≡ true → answer (setupOf v) s (abort c) ≡ accepted
+            unfolding answer
+            abort-fine t = rw (known-is, ← real-is, real, ← served-is, other, ← waiting, t)
+
+  -- RUN AND REPLY
+
+  pub run-none : (n : ℕ) → n ≡ 0 → answer (setupOf v) s (run n) ≡ runOfNone
+  unfolding answer
+  run-none n e = rw (eq-eqb n 0 e)
+
+  module _ {b : Bool} (rests : b ≡ isIdle (serverOf (g .server))) where
+    rests-is : b ≡ isIdle (s .server)
+    rests-is = rests ∙ ap isIdle (h .server)
+
+    pub reply-idle : b ≡ true → answer (setupOf v) s reply ≡ serverIdle
+    unfolding answer
+    reply-idle t = rw (← rests-is, t)
+
+    pub reply-fine : b ≡ false → answer (setupOf v) s reply ≡ accepted
+    unfolding answer
+    reply-fine t = rw (← rests-is, t)
+
+    module _ (n : ℕ) (positive : n ≡ 0 → ⊥) where
+      pub run-idle : b ≡ true → answer (setupOf v) s (run n) ≡ serverIdle
+      unfolding answer
+      run-idle t = rw (ne-eqb n 0 positive, ← rests-is, t)
+
+      module _ (busy : b ≡ false) {p : Bool} (past : p ≡ ltb (g .setup .cap) (g .units + n)) where
+        cap-is : p ≡ ltb (v .cap) (s .units + n)
+        cap-is = past ∙ ap₂ (λ u m. ltb (u .cap) (m + n)) (h .setup) (h .units)
+
+        pub run-past : p ≡ true → answer (setupOf v) s (run n) ≡ runPastCap
+        unfolding answer
+        run-past t = rw (ne-eqb n 0 positive, ← rests-is, busy, ← cap-is, t)
+
+        -- what is left of a run decides
+        pub run-charges : {r : Answered} → p ≡ false → Charges v s n r → Answers v s (run n) r
+        unfolding answer next step
+        run-charges {r} t q =
+            by-test (overcharges (setupOf v) s n)
+            (λ o. record {
+              number = rw (ne-eqb n 0 positive, ← rests-is, busy, ← cap-is, t) (q .number);
+              shows = rw (ne-eqb n 0 positive, ← rests-is, busy, ← cap-is, t, o) (rw o at (q .shows));
+            })
+            (λ o. record {
+              number = rw (ne-eqb n 0 positive, ← rests-is, busy, ← cap-is, t) (q .number);
+              shows = rw (ne-eqb n 0 positive, ← rests-is, busy, ← cap-is, t, o) (rw o at (q .shows));
+            })

@@ -1,0 +1,100 @@
+-- `moves::refilled` meets its contract: the line is full, or nobody is in the room, or the highest in rank moves.
+-- Assumes nothing.
+use mathlib.Core.Path.{refl}
+use native.Mathlib.Omega.{arith}
+use borrow.Author.Needs.{needs}
+use Rattle.moves.proofs.Refill.{refill-full, refill-moves, refill-none}
+use Rattle.moves.proofs.refilled.Statement.{statement}
+use Rattle.moves.proofs.refilled.Tie as tie
+
+mul-line : tie.Need-mul-line
+mul-line c = search needs
+
+element-copy-out-line : tie.Need-element-copy-out-line
+element-copy-out-line c = search needs
+
+mul-room : tie.Need-mul-room
+mul-room c = search needs
+
+element-copy-out-room : tie.Need-element-copy-out-room
+element-copy-out-room c = search needs
+
+size-requires : tie.Need-size-requires
+size-requires c κs = search needs
+
+used-requires : tie.Need-used-requires
+used-requires c κs = search needs
+
+returns : tie.Need-returns
+returns c =
+    let a = c .before .before .before .before .before .before .args in (
+      refl,
+      λ v s h. refill-full h (a .k .0) (omega arith) _ (c .before .before .size .ensures) (c .before .used .ensures)
+          (c .if1 .taken),
+    )
+
+highest-in-requires : tie.Need-highest-in-requires
+highest-in-requires c κs = search needs
+
+returns-2 : tie.Need-returns-2
+returns-2 c =
+    let d = c .before .before in
+    let a = d .before .before .before .before .before .before .args in (
+      refl,
+      λ v s h. refill-none h (a .k .0) (omega arith) _ (d .before .before .size .ensures) (d .before .used .ensures)
+          (d .if1 .left) _ (c .before .highest-in .ensures .0) (c .if2 .taken),
+    )
+
+narrow-requires : tie.Need-narrow-requires
+narrow-requires c κs = search needs
+
+longer-requires : tie.Need-longer-requires
+longer-requires c κs = search needs
+
+mul-more : tie.Need-mul-more
+mul-more c = search needs
+
+element-set-from-more : tie.Need-element-set-from-more
+element-set-from-more c = search needs
+
+without-requires : tie.Need-without-requires
+without-requires c κs = search needs
+
+mul-n : tie.Need-mul-n
+mul-n c = search needs
+
+element-write-n : tie.Need-element-write-n
+element-write-n c = search needs
+
+returns-3 : tie.Need-returns-3
+returns-3 c =
+    let b = c .before .before .before in
+    let d = b .before .before in
+    let a = d .before .before .before .before .before .before .args in (
+      refl,
+      λ v s h. rw (c .without .ensures, c .before .longer .ensures, c .before .before .narrow .ensures)
+          (refill-moves h (a .k .0) (omega arith) _ (d .before .before .size .ensures) (d .before .used .ensures)
+          (d .if1 .left) _ (b .before .highest-in .ensures .0) (b .if2 .left)),
+    )
+
+pub refilled-spec : {M : Type 1} → statement M
+refilled-spec =
+    tie.close
+    (tie.spec
+    mul-line
+    element-copy-out-line
+    mul-room
+    element-copy-out-room
+    size-requires
+    used-requires
+    returns
+    highest-in-requires
+    returns-2
+    narrow-requires
+    longer-requires
+    mul-more
+    element-set-from-more
+    without-requires
+    mul-n
+    element-write-n
+    returns-3)

@@ -1,0 +1,2 @@
+-- What the tests of presence stand on.
+pub mod Here

@@ -1,0 +1,3 @@
+-- What the search for the highest in rank stands on, and laws of tests for the crates above.
+pub mod Bools
+pub mod Ranks

@@ -1,0 +1,181 @@
+// What the moves and the events read: a client's row and rank, a cluster's size, a line.
+
+use gate::Client;
+use gate::Cluster;
+use gate::Gate;
+use gate::Line;
+use gate::Setup;
+ghost use mathlib.Core.Path.{_≡_};
+ghost use Prim.Native.Nat.{_≤_, _<_};
+ghost use lib.Dec.{eqb};
+ghost use lib.ListN.{length, getD};
+ghost use Rattle.rules.specs.Lists.{highest};
+ghost use Rattle.rules.specs.Setup.{realTime};
+ghost use Rattle.sets.specs.Sets.{member};
+ghost use Rattle.places.specs.Places.{usedOf, appendOf};
+ghost use Rattle.gate.specs.Shown.{setupOf, client};
+ghost use Rattle.gate.specs.Shows.{Fine};
+ghost use Rattle.rows.specs.Homes.{Home};
+ghost use Rattle.rows.specs.Ranks.{before, rankBy, orNobody, betterOf};
+
+// A byte as an index.
+pub fn wide(x: u8) -> usize
+    ensures { λ r. ⌜ r ≡ x ⌝ }
+{
+    x as usize
+}
+
+// A client's number as an index. It becomes one here and nowhere else.
+pub fn index(c: Client) -> usize
+    ensures { λ r. ⌜ r ≡ c .0 ⌝ }
+{
+    c.0 as usize
+}
+
+// A client's number as a place holds it.
+pub fn byte(c: Client) -> u8
+    requires { ⌜ c .0 < 64 ⌝ }
+    ensures { λ r. ⌜ r ≡ c .0 ⌝ }
+{
+    c.0 as u8
+}
+
+// The client that a place holds.
+pub fn client_in(x: u8) -> Client
+    ensures { λ r. ⌜ r ≡ client x ⌝ }
+{
+    Client(x as u16)
+}
+
+// THE SETUP
+
+// A client's cluster.
+pub fn home(s: Setup, c: Client) -> Cluster
+    requires { ⌜ (c .0 < 64) × Fine s ⌝ }
+    ensures { λ r. ⌜ Home s (c .0) (r .0) ⌝ }
+{
+    let homes = s.homes;
+    let i = index(c);
+    Cluster(wide(homes[i]))
+}
+
+// Whether k is the cluster of c. Who is no client has none.
+pub fn is_home(s: Setup, c: Client, k: Cluster) -> bool
+    ensures { λ r. ⌜ (c .0 < 64 → r ≡ eqb (setupOf s .cluster (c .0)) (k .0)) ⌝ }
+{
+    let i = index(c);
+    if i < Gate::MAX_CLIENTS {
+        let homes = s.homes;
+        return wide(homes[i]) == k.0;
+    }
+    false
+}
+
+pub fn is_real_time(s: Setup, c: Client) -> bool
+    requires { ⌜ c .0 < 64 ⌝ }
+    ensures { λ r. ⌜ r ≡ realTime (setupOf s) (c .0) ⌝ }
+{
+    let kinds = s.kinds;
+    let i = index(c);
+    kinds[i] == 0
+}
+
+// A cluster's size, m.
+pub fn size(s: Setup, k: Cluster) -> usize
+    requires { ⌜ k .0 < 8 ⌝ }
+    ensures { λ r. ⌜ r ≡ setupOf s .size (k .0) ⌝ }
+{
+    let sizes = s.sizes;
+    let i = k.0;
+    wide(sizes[i])
+}
+
+// LINES
+
+// How many clients are in the line.
+pub fn used(l: Line) -> usize
+    ensures { λ r. ⌜ r ≡ usedOf (l .places) ⌝ }
+{
+    let q = l.places;
+    places::used(&q)
+}
+
+// The line's front, or 255.
+pub fn front(l: Line) -> u8
+    ensures { λ r. ⌜ r ≡ getD (l .places) 0 0 ⌝ }
+{
+    let q = l.places;
+    q[0]
+}
+
+// The line with x at its end.
+pub fn longer(l: Line, x: u8) -> Line
+    ensures { λ r. ⌜ r ≡ record { places = appendOf x (l .places) } ⌝ }
+{
+    let mut q = l.places;
+    places::append(&mut q, x);
+    Line { places: q }
+}
+
+// RANK
+
+// Whether client a, of priority p, outranks client b, of priority q.
+pub fn outranks(p: u16, a: usize, q: u16, b: usize) -> bool
+    ensures { λ r. ⌜ r ≡ before p a q b ⌝ }
+{
+    if p < q {
+        return true;
+    }
+    if p == q {
+        return a < b;
+    }
+    false
+}
+
+// The higher in rank of c, if it is in the room, and of b, the highest found before; 64 is nobody.
+fn better(priorities: &[u16], room: u64, c: usize, b: usize) -> usize
+    requires { ⌜ (length (now priorities) ≡ 64) × (c < 64) × (b ≤ 64) ⌝ }
+    ensures { λ r. ⌜ (r ≡ betterOf (rankBy (now (priorities .entry))) (member room) c b) × (r ≤ 64) ⌝ }
+{
+    if !sets::member(room, c) {
+        return b;
+    }
+    if b == Gate::MAX_CLIENTS {
+        return c;
+    }
+    if outranks(priorities[c], c, priorities[b], b) {
+        return c;
+    }
+    b
+}
+
+// The highest in rank of those below n in the room, or 64.
+fn highest_of(priorities: &[u16], room: u64, n: usize) -> usize
+    requires { ⌜ (length (now priorities) ≡ 64) × (n ≤ 64) ⌝ }
+    ensures { λ r. ⌜ (r ≡ orNobody (highest (rankBy (now (priorities .entry))) (member room) n)) × (r ≤ 64) ⌝ }
+{
+    let mut b = Gate::MAX_CLIENTS;
+    let mut c: usize = 0;
+    while c < n {
+        b = better(priorities, room, c, b);
+        c += 1;
+    }
+    b
+}
+
+// The highest in rank of the clients in the room, or 64.
+pub fn highest_in(s: Setup, room: u64) -> usize
+    requires { ⌜ Fine s ⌝ }
+    ensures { λ r. ⌜ (r ≡ orNobody (highest (rankBy (s .priorities)) (member room) (s .clients))) × (r ≤ 64) ⌝ }
+{
+    let priorities = s.priorities;
+    highest_of(&priorities, room, wide(s.clients))
+}
+
+// A number below 64 as a place holds it.
+pub fn narrow(c: usize) -> u8
+    requires { ⌜ c < 64 ⌝ }
+    ensures { λ r. ⌜ r ≡ c ⌝ }
+{
+    c as u8
+}

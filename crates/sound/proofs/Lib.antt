@@ -1,0 +1,3 @@
+-- Waiting rooms as words, and the clauses together. Assumes nothing.
+pub mod Rooms
+pub mod Rest

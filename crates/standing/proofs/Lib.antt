@@ -1,0 +1,7 @@
+-- Loops over places, one number everywhere, lines and queues; and who is seen in them. Assumes nothing.
+pub mod Turns
+pub mod Queues
+pub mod Once
+pub mod Shape
+pub mod LineTurns
+pub mod Standing

@@ -1,0 +1,46 @@
+-- `standing::setup_sound` meets its contract.
+-- Assumes nothing.
+use mathlib.Core.Path.{sym, ap, _∙_}
+use lib.Dec.{eqb}
+use borrow.Author.Needs.{needs}
+use borrow.Author.Tests.{not-true, not-false, le-leb}
+use Rattle.rules.specs.Limits.{maxCap}
+use Rattle.rules.specs.Refusals.{accepted}
+use Rattle.gate.specs.Made.{Told, verdictOf}
+use Rattle.soundness.specs.Clauses.{setupSound}
+use Rattle.standing.proofs.setup_sound.Statement.{statement}
+use Rattle.standing.proofs.setup_sound.Tie as tie
+
+setup-verdict-requires : tie.Need-setup-verdict-requires
+setup-verdict-requires c κs = search needs
+
+is-accepted-requires : tie.Need-is-accepted-requires
+is-accepted-requires c κs = search needs
+
+returns : tie.Need-returns
+unfolding setupSound verdictOf
+returns c =
+    let v = c .before .before .setup-verdict in
+    let a = c .before .is-accepted in
+    let e = sym (ap (λ (t : Told). eqb (t .number) accepted) (v .ensures)) ∙ sym (a .ensures) in
+    rw (e ∙ not-true _ (c .if1 .taken))
+
+zero-past-requires : tie.Need-zero-past-requires
+zero-past-requires c κs = search needs
+
+returns-2 : tie.Need-returns-2
+unfolding setupSound verdictOf
+returns-2 c =
+    let v = c .before .before .before .setup-verdict in
+    let a = c .before .before .is-accepted in
+    let s = c .before .before .before .before .args .s in
+    rw (
+      sym (ap (λ (t : Told). eqb (t .number) accepted) (v .ensures)) ∙ sym (a .ensures)
+          ∙ not-false _ (c .before .if1 .left),
+      le-leb (s .cap) maxCap (search needs),
+    ) (c .zero-past .ensures)
+
+pub setup-sound-spec : {M : Type 1} → statement M
+setup-sound-spec =
+    tie.close
+    (tie.spec setup-verdict-requires is-accepted-requires returns zero-past-requires returns-2)

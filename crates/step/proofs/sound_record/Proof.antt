@@ -1,0 +1,30 @@
+-- `step::sound_record` meets its contract.
+-- Assumes nothing.
+use mathlib.Core.Path.{refl}
+use borrow.Author.Needs.{needs}
+use Rattle.events.specs.declared.Answer.the-variants.{Unknown}
+use Rattle.step.proofs.Doors.{unheard}
+use Rattle.step.proofs.sound_record.Statement.{statement}
+use Rattle.step.proofs.sound_record.Tie as tie
+
+enum-known-h : tie.Need-enum-known-h
+enum-known-h c = search needs
+
+sound-step-requires : tie.Need-sound-step-requires
+sound-step-requires c κs = search needs
+
+enum-told : tie.Need-enum-told
+enum-told c = search needs
+
+returns : tie.Need-returns
+returns c = rw (c .before .before .h .given .1) (c .sound-step .ensures)
+
+returns-2 : tie.Need-returns-2
+returns-2 c =
+    let s = c .before .before in
+    rw (c .enum-told .given .1)
+    (unheard (s .args .g) (s .pre) (record { answer = Unknown; gate = s .args .g }) refl refl)
+
+pub sound-record-spec : {M : Type 1} → statement M
+sound-record-spec =
+    tie.close (tie.spec enum-known-h sound-step-requires enum-told returns returns-2)

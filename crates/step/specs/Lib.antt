@@ -1,0 +1,2 @@
+-- What a step answers. Nothing is proved here.
+pub mod Stepped
