@@ -1,0 +1,4 @@
+pub mod Entering
+pub mod Turns
+pub mod Opened
+pub mod Reports
