@@ -31,7 +31,7 @@ fn waiting_in(l: Line, room: u64) -> u64
     let mut s = room;
     let mut i: usize = 0;
     while i < Gate::MAX_SIZE {
-        s = sets::with(s, rows::wide(q[i]));
+        s = sets::with(s, gate::wide(q[i]));
         i += 1;
     }
     s
@@ -114,7 +114,7 @@ fn charged_of(g: Gate, k: Cluster) -> u64
     charged_among(
         &priorities,
         waiting_in(line, room),
-        rows::wide(setup.clients),
+        gate::wide(setup.clients),
         m,
     )
 }
@@ -126,7 +126,7 @@ pub fn charged(g: Gate) -> u64
         ⌜ ((v : given.Setup) (s : State) → Shows v s g → Sound (setupOf v) s
         → r ≡ setOf 64 (charged (setupOf v) (outranks (setupOf v) s) s)) ⌝ }
 {
-    let n = rows::wide(g.setup.clusters);
+    let n = gate::wide(g.setup.clusters);
     let mut s: u64 = 0;
     let mut k: usize = 0;
     while k < n {
@@ -204,7 +204,7 @@ pub fn ran(g: Gate, set: u64, n: u16) -> Gate
         (putServer (g .server) (g .units + n) g) ⌝ }
 {
     let charges = g.charges;
-    let after = charges_after(charges, set, n, rows::wide(g.setup.clients));
+    let after = charges_after(charges, set, n, gate::wide(g.setup.clients));
     let mut r = g;
     r.charges = after;
     r.units = g.units + (n as u32);

@@ -1,18 +1,21 @@
 -- Demand 1: what is done with nonsense. Each public function has an answer for whatever it is handed; these say which.
 -- Assumes nothing.
-use Prim.Native.Nat.{ℕ}
+use Prim.Native.Nat.{ℕ, _+_, _*_}
 use mathlib.Core.Path.{_≡_, refl, sym, ap, _∙_}
 use mathlib.Core.Bool.{Bool, true, false, not, _||_, cond}
+use mathlib.Core.List.{List, _++_}
 use mathlib.Core.Option.{Option}
 use lib.Dec.{eqb, ltb}
 use lib.IntN.{natAbs}
 use lib.ListN.{length}
 use borrow.Author.Tests.{ne-eqb}
 use Rattle.rules.specs.Limits.{maxLines}
-use Rattle.rules.specs.Refusals.{accepted, unsound, fieldOut}
+use Rattle.rules.specs.Refusals.{accepted, unsound, fieldOut, logCut}
 use Rattle.rules.specs.Setup.{setupAnswer}
+use Rattle.rules.specs.State.{fresh}
 use Rattle.rules.specs.Events.{Event}
 use Rattle.rules.specs.Records.{answerOf}
+use Rattle.rules.specs.Replay.{entriesFrom}
 use Rattle.rules.specs.Quote.{Order, Quote, fieldsFit, firstFalse, budgetOf, quote}
 use Rattle.rules.proofs.Tests.{by-test}
 use Rattle.rules.proofs.Theorems.{refused-same}
@@ -24,6 +27,11 @@ use Rattle.gate.proofs.Reading.{shown-back}
 use Rattle.soundness.specs.Clauses.{soundOf}
 use Rattle.soundness.proofs.Exact.{passed-laid, empty-fails}
 use Rattle.step.specs.Stepped.{Told, stepped}
+use Rattle.log.specs.declared.Opening.the-variants.{Records, Refused}
+use Rattle.log.specs.declared.Refusal.{Refusal}
+use Rattle.log.specs.Opening.{told, setupIn, openingOf}
+use Rattle.log.specs.Reading.{recordSize}
+use Rattle.report.specs.Report.{heading, entryLines, refusedLine, whole, recordsIn, lastLines, replayed, reportOf}
 use Rattle.demands.proofs.Steps.{step-sound}
 
 -- An unsound gate is answered 19, and handed back.
@@ -66,3 +74,17 @@ place-of o n =
     by-test (ltb maxLines (length (o .calls)) || not (eqb (length (o .calls)) (length (o .caps)))) (λ a. rw a) λ a.
     by-test (ltb (firstFalse (fieldsFit o)) (length (fieldsFit o))) (λ b. absurd (n (rw (a, b)))) λ b.
     by-test (ltb (natAbs (o .period)) (budgetOf o)) (λ d. rw (a, b, d)) (λ d. rw (a, b, d))
+
+-- A log refused before its records is answered by its number and offset alone ..
+pub refused-log : (l : List ℕ) (r : Refusal) → openingOf l ≡ Refused r → reportOf l ≡ refusedLine (told r)
+unfolding reportOf
+refused-log l r e = rw e
+
+-- .. and one whose last record is cut by the lines of its whole records, then 23 and that record's offset.
+pub cut-log : (l : List ℕ) (start : ℕ) → openingOf l ≡ Records start
+    → (start + recordSize * whole l start ≡ length l → ⊥)
+    → reportOf l ≡ heading (setupIn l .clusters) (setupIn l .clients) (setupIn l .cap)
+    ++ (entryLines 0 (entriesFrom (setupOf (setupIn l)) fresh (recordsIn l start))
+    ++ refusedLine (record { number = logCut; offset = start + recordSize * whole l start }))
+unfolding reportOf replayed lastLines
+cut-log l start e n = rw (e, ne-eqb (start + recordSize * whole l start) (length l) n)

@@ -12,7 +12,7 @@ ghost use Rattle.rules.specs.Sound.{Sound};
 ghost use Rattle.gate.specs.declared.Setup as given;
 ghost use Rattle.gate.specs.Shown.{setupOf};
 ghost use Rattle.gate.specs.Shows.{Shows};
-ghost use Rattle.events.specs.Answers.{Usable, Answers, Charges};
+ghost use Rattle.events.specs.Answers.{numberOf, Usable, Answers, Charges};
 
 // What an event answers. Unknown is for a record that is no event: it comes before there is an event to do.
 pub enum Answer {
@@ -35,6 +35,25 @@ pub struct Answered {
     pub gate: Gate,
 }
 
+// An answer's number.
+pub fn number(a: Answer) -> u64
+    ensures { λ r. ⌜ r ≡ numberOf a ⌝ }
+{
+    match a {
+        Answer::Accepted => 0,
+        Answer::NoClient => 10,
+        Answer::WaitsAlready => 11,
+        Answer::ServerIdle => 12,
+        Answer::RunOfNone => 13,
+        Answer::RunPastCap => 14,
+        Answer::NotWaiting => 15,
+        Answer::BestEffort => 16,
+        Answer::SpentAlready => 17,
+        Answer::Unknown => 18,
+        Answer::Unsound => 19,
+    }
+}
+
 // Invoke c: 10, 11.
 pub fn invoke(g: Gate, c: Client) -> Answered
     requires { ⌜ Usable g ⌝ }
@@ -43,7 +62,7 @@ pub fn invoke(g: Gate, c: Client) -> Answered
         → Answers v s (rules.invoke (c .0)) r) ⌝ }
 {
     let setup = g.setup;
-    if rows::wide(setup.clients) <= rows::index(c) {
+    if gate::wide(setup.clients) <= rows::index(c) {
         return Answered {
             answer: Answer::NoClient,
             gate: g,
@@ -81,7 +100,7 @@ fn charged(g: Gate, n: u16) -> Answered
     let set = charging::charged(g);
     let charges = g.charges;
     let setup = g.setup;
-    if charging::overcharges(&charges, set, n, rows::wide(setup.clients)) {
+    if charging::overcharges(&charges, set, n, gate::wide(setup.clients)) {
         return Answered {
             answer: Answer::Unsound,
             gate: g,
@@ -152,7 +171,7 @@ pub fn abort(g: Gate, c: Client) -> Answered
         → Answers v s (rules.abort (c .0)) r) ⌝ }
 {
     let setup = g.setup;
-    if rows::wide(setup.clients) <= rows::index(c) {
+    if gate::wide(setup.clients) <= rows::index(c) {
         return Answered {
             answer: Answer::NoClient,
             gate: g,

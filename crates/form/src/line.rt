@@ -1,16 +1,15 @@
 // An answer as a line of text.
 use quote::Answer;
+use text::LF;
+use text::SPACE;
 use text::put_byte;
 use text::put_number;
+use text::wide_size;
 ghost use mathlib.Core.Path.{_≡_};
 ghost use Rattle.io.specs.Counts.{Counts};
 ghost use Rattle.quote.specs.Told.{told};
 ghost use Rattle.text.specs.Text.{Wrote};
 ghost use Rattle.form.specs.Output.{line};
-
-const LF: u8 = 10;
-
-const SPACE: u8 = 32;
 
 // The line of an answer, `BUDGET ANSWER PLACE`.
 pub fn answer_line(a: Answer, out: &mut [u8; 64]) -> usize
@@ -22,12 +21,6 @@ pub fn answer_line(a: Answer, out: &mut [u8; 64]) -> usize
     let j = put_byte(out, i, SPACE);
     let k = put_number(out, j, q.answer);
     let l = put_byte(out, k, SPACE);
-    let m = put_number(out, l, wide(q.place));
+    let m = put_number(out, l, wide_size(q.place));
     put_byte(out, m, LF)
-}
-
-fn wide(x: usize) -> u64
-    ensures { λ r. ⌜ r ≡ x ⌝ }
-{
-    x as u64
 }

@@ -1,6 +1,5 @@
 // The global queue: whether it holds exactly the fronts that are not in service and whose cluster isn't blocked.
 
-use gate::Client;
 use gate::Gate;
 use gate::Line;
 use gate::Server;
@@ -10,7 +9,7 @@ ghost use mathlib.Core.Path.{_≡_};
 ghost use Prim.Native.Nat.{_≤_, _<_};
 ghost use Rattle.rules.specs.Limits.{maxClusters};
 ghost use Rattle.rules.specs.Lists.{heads};
-ghost use Rattle.rules.specs.State.{blocks, isFront};
+ghost use Rattle.rules.specs.State.{isFront};
 ghost use Rattle.gate.specs.Shown.{setupOf, serverOf, stateOf};
 ghost use Rattle.gate.specs.Shows.{Fine};
 ghost use Rattle.soundness.specs.Tests.{firstIn};
@@ -18,33 +17,18 @@ ghost use Rattle.soundness.specs.Clauses.{globalSound};
 ghost use Rattle.standing.specs.Answers.{linesIn, seenOf};
 ghost use Rattle.fronts.specs.Answers.{queuedIn, mayQueue, frontsSeen, queueSeen};
 
-pub fn number(c: Client) -> usize
-    ensures { λ r. ⌜ r ≡ c .0 ⌝ }
-{
-    c.0 as usize
-}
-
-pub fn home(s: Setup, c: usize) -> usize
-    ensures { λ r. ⌜ r ≡ setupOf s .cluster c ⌝ }
-{
-    if c >= Gate::MAX_CLIENTS {
-        return 0;
-    }
-    standing::wide(s.homes[c])
-}
-
 // Client c is the front of its line.
 pub fn is_first(s: Setup, lines: [Line; 8], c: usize) -> bool
     requires { ⌜ Fine s ⌝ }
     ensures { λ r. ⌜ r ≡ heads c (linesIn lines (setupOf s .cluster c)) ⌝ }
 {
-    let k = home(s, c);
+    let k = rows::cluster_of(s, c);
     let line = lines[k];
     let q = line.places;
     if q[0] == places::UNUSED {
         return false;
     }
-    standing::wide(q[0]) == c
+    gate::wide(q[0]) == c
 }
 
 // Client c is in service as a front.
@@ -53,21 +37,9 @@ fn is_served(server: Server, c: usize) -> bool
 {
     match server {
         Server::Idle => false,
-        Server::Front(d) => number(d) == c,
+        Server::Front(d) => rows::index(d) == c,
         Server::Best(_) => false,
         Server::Spent(_) => false,
-    }
-}
-
-// Cluster k is blocked.
-fn is_blocked(s: Setup, server: Server, k: usize) -> bool
-    ensures { λ r. ⌜ r ≡ blocks (setupOf s) (serverOf server) k ⌝ }
-{
-    match server {
-        Server::Idle => false,
-        Server::Front(_) => false,
-        Server::Best(_) => false,
-        Server::Spent(d) => home(s, number(d)) == k,
     }
 }
 
@@ -82,14 +54,14 @@ fn is_queued(s: Setup, lines: [Line; 8], server: Server, c: usize) -> bool
     if is_served(server, c) {
         return false;
     }
-    !is_blocked(s, server, home(s, c))
+    !rows::is_blocked(s, server, rows::cluster_of(s, c))
 }
 
 fn may_queue(s: Setup, lines: [Line; 8], server: Server, c: usize) -> bool
     requires { ⌜ Fine s ⌝ }
     ensures { λ r. ⌜ r ≡ mayQueue (setupOf s) (linesIn lines) (serverOf server) c ⌝ }
 {
-    if standing::wide(s.clients) <= c {
+    if gate::wide(s.clients) <= c {
         return false;
     }
     is_queued(s, lines, server, c)
@@ -106,7 +78,7 @@ fn queue_seen(s: Setup, lines: [Line; 8], server: Server, q: [u8; 8]) -> Seen
         if q[i] == places::UNUSED {
             break;
         }
-        let c = standing::wide(q[i]);
+        let c = gate::wide(q[i]);
         if !may_queue(s, lines, server, c) {
             return Seen::Unsound;
         }
@@ -132,7 +104,7 @@ fn front_seen(s: Setup, lines: [Line; 8], server: Server, queue: u64, k: usize) 
     if q[0] == places::UNUSED {
         return true;
     }
-    let c = standing::wide(q[0]);
+    let c = gate::wide(q[0]);
     if !is_queued(s, lines, server, c) {
         return true;
     }
@@ -143,7 +115,7 @@ fn fronts_seen(s: Setup, lines: [Line; 8], server: Server, queue: u64) -> bool
     requires { ⌜ (s .clusters ≤ maxClusters) × Fine s ⌝ }
     ensures { λ r. ⌜ r ≡ frontsSeen (setupOf s) (linesIn lines) (serverOf server) queue ⌝ }
 {
-    let n = standing::wide(s.clusters);
+    let n = gate::wide(s.clusters);
     let mut k: usize = 0;
     while k < n {
         if !front_seen(s, lines, server, queue, k) {

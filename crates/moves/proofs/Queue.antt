@@ -3,21 +3,18 @@
 use Prim.Native.Nat.{_<_, ℕ}
 use mathlib.Core.Bool.{Bool, false, true}
 use mathlib.Core.List.{List, [], _++_, _∷_}
-use mathlib.Core.Path.{_∙_, _≡_, ap, refl, subst, sym}
+use mathlib.Core.Path.{_∙_, _≡_, refl, subst}
 use native.Mathlib.Omega.{arith}
-use lib.Dec.{eqb}
 use lib.ListN.{getD, length}
-use Rattle.rules.specs.Limits.{maxClients, maxClusters, maxSize, unusedPlace}
+use Rattle.rules.specs.Limits.{maxClusters, maxSize, unusedPlace}
 use Rattle.rules.specs.Queues.{join, queue}
-use Rattle.rules.specs.State.{State, blocks, spent, withGlobal}
+use Rattle.rules.specs.State.{State, blocks, withGlobal}
 use Rattle.places.specs.Places.{appendOf, pad}
 use Rattle.places.proofs.Queues.{append-pad}
-use Rattle.gate.specs.Shown.{serverOf, setupOf}
-use Rattle.gate.specs.Shows.{Fits, ServerFits, Shows}
-use Rattle.gate.specs.declared.Client.{Client}
+use Rattle.gate.specs.Shown.{setupOf}
+use Rattle.gate.specs.Shows.{Fits, Shows}
 use Rattle.gate.specs.declared.Gate.{Gate}
 use Rattle.gate.specs.declared.Line.{Line}
-use Rattle.gate.specs.declared.Server.the-variants.{Spent}
 use Rattle.gate.specs.declared.Setup.{Setup}
 use Rattle.moves.specs.Parts.{putGlobal}
 use Rattle.moves.proofs.Fits.{fits-first, fits-snoc, fits-used}
@@ -56,12 +53,3 @@ module _ {v : Setup} {s : State} {g : Gate} (h : Shows v s g) (k : ℕ) {b : Boo
             shows-global h (s .global ++ (y ∷ [])) _
             (rw (h .global, w) (append-pad y maxClusters (s .global) (fits-used (h .global-fits))))
             (fits-snoc y (h .global-fits) short (fits-first f))
-
--- the cluster of a spent client in service is the one that is blocked
-pub blocks-spent : {v : Setup} {s : State} {g : Gate} (h : Shows v s g) (k : ℕ) {x : Client} {b : Bool}
-    → g .server ≡ Spent x → (x .0 < maxClients → b ≡ eqb (setupOf (g .setup) .cluster (x .0)) k)
-    → b ≡ blocks (setupOf v) (s .server) k
-blocks-spent {v} {s} {g} h k {x} q t =
-    let e : s .server ≡ spent (x .0) = sym (h .server) ∙ ap serverOf q in
-    t (subst ServerFits e (h .server-fits)) ∙ ap (λ u. eqb (setupOf u .cluster (x .0)) k) (h .setup)
-    ∙ ap (λ y. blocks (setupOf v) y k) (sym e)

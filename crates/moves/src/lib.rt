@@ -15,9 +15,6 @@ ghost use Rattle.gate.specs.Shown.{setupOf, serverOf};
 ghost use Rattle.gate.specs.Shows.{Fine, Shows};
 ghost use Rattle.moves.specs.Parts.{putServer};
 
-// What an unused place holds.
-const UNUSED: u8 = 255;
-
 // REFILL
 
 // Refill of a cluster: if its line has room and its waiting room isn't empty, the highest in rank moves to the line's
@@ -61,18 +58,12 @@ pub fn is_idle(s: Server) -> bool
     }
 }
 
-// A cluster is blocked exactly while a spent client of that cluster is in service.
 fn is_blocked(g: Gate, k: Cluster) -> bool
     ensures { λ r.
         ⌜ ((v : given.Setup) (s : State) → Shows v s g → r ≡ blocks (setupOf v) (s .server) (k .0)) ⌝ }
 {
     let server = g.server;
-    match server {
-        Server::Idle => false,
-        Server::Front(_) => false,
-        Server::Best(_) => false,
-        Server::Spent(c) => rows::is_home(g.setup, c, k),
-    }
+    rows::is_blocked(g.setup, server, k.0)
 }
 
 // Another one in service, with the units served.
@@ -107,7 +98,7 @@ pub fn picked(g: Gate) -> Gate
 {
     let mut q = g.global;
     let x = q[0];
-    if x != UNUSED {
+    if x != places::UNUSED {
         places::close_up(&mut q, 0);
         let mut n = g;
         n.global = q;
@@ -115,7 +106,7 @@ pub fn picked(g: Gate) -> Gate
     }
     let mut b = g.background;
     let y = b[0];
-    if y != UNUSED {
+    if y != places::UNUSED {
         places::close_up(&mut b, 0);
         let mut n = g;
         n.background = b;
@@ -140,7 +131,7 @@ pub fn queued(g: Gate, k: Cluster) -> Gate
     let i = k.0;
     let line = g.lines[i];
     let x = rows::front(line);
-    if x == UNUSED {
+    if x == places::UNUSED {
         return g;
     }
     let mut q = g.global;

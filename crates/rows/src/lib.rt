@@ -1,29 +1,23 @@
-// What the moves and the events read: a client's row and rank, a cluster's size, a line.
+// What is read of a gate: a client's row and rank, a cluster's size, whether it is blocked, a line.
 
 use gate::Client;
 use gate::Cluster;
 use gate::Gate;
 use gate::Line;
+use gate::Server;
 use gate::Setup;
 ghost use mathlib.Core.Path.{_≡_};
 ghost use Prim.Native.Nat.{_≤_, _<_};
-ghost use lib.Dec.{eqb};
 ghost use lib.ListN.{length, getD};
 ghost use Rattle.rules.specs.Lists.{highest};
 ghost use Rattle.rules.specs.Setup.{realTime};
+ghost use Rattle.rules.specs.State.{blocks};
 ghost use Rattle.sets.specs.Sets.{member};
 ghost use Rattle.places.specs.Places.{usedOf, appendOf};
-ghost use Rattle.gate.specs.Shown.{setupOf, client};
+ghost use Rattle.gate.specs.Shown.{setupOf, serverOf, client};
 ghost use Rattle.gate.specs.Shows.{Fine};
 ghost use Rattle.rows.specs.Homes.{Home};
 ghost use Rattle.rows.specs.Ranks.{before, rankBy, orNobody, betterOf};
-
-// A byte as an index.
-pub fn wide(x: u8) -> usize
-    ensures { λ r. ⌜ r ≡ x ⌝ }
-{
-    x as usize
-}
 
 // A client's number as an index. It becomes one here and nowhere else.
 pub fn index(c: Client) -> usize
@@ -49,6 +43,16 @@ pub fn client_in(x: u8) -> Client
 
 // THE SETUP
 
+// The cluster that stands in row c; 0 where there is no such row.
+pub fn cluster_of(s: Setup, c: usize) -> usize
+    ensures { λ r. ⌜ r ≡ setupOf s .cluster c ⌝ }
+{
+    if c >= Gate::MAX_CLIENTS {
+        return 0;
+    }
+    gate::wide(s.homes[c])
+}
+
 // A client's cluster.
 pub fn home(s: Setup, c: Client) -> Cluster
     requires { ⌜ (c .0 < 64) × Fine s ⌝ }
@@ -56,19 +60,7 @@ pub fn home(s: Setup, c: Client) -> Cluster
 {
     let homes = s.homes;
     let i = index(c);
-    Cluster(wide(homes[i]))
-}
-
-// Whether k is the cluster of c. Who is no client has none.
-pub fn is_home(s: Setup, c: Client, k: Cluster) -> bool
-    ensures { λ r. ⌜ (c .0 < 64 → r ≡ eqb (setupOf s .cluster (c .0)) (k .0)) ⌝ }
-{
-    let i = index(c);
-    if i < Gate::MAX_CLIENTS {
-        let homes = s.homes;
-        return wide(homes[i]) == k.0;
-    }
-    false
+    Cluster(gate::wide(homes[i]))
 }
 
 pub fn is_real_time(s: Setup, c: Client) -> bool
@@ -87,7 +79,19 @@ pub fn size(s: Setup, k: Cluster) -> usize
 {
     let sizes = s.sizes;
     let i = k.0;
-    wide(sizes[i])
+    gate::wide(sizes[i])
+}
+
+// A cluster is blocked exactly while a spent client of that cluster is in service.
+pub fn is_blocked(s: Setup, server: Server, k: usize) -> bool
+    ensures { λ r. ⌜ r ≡ blocks (setupOf s) (serverOf server) k ⌝ }
+{
+    match server {
+        Server::Idle => false,
+        Server::Front(_) => false,
+        Server::Best(_) => false,
+        Server::Spent(c) => cluster_of(s, index(c)) == k,
+    }
 }
 
 // LINES
@@ -169,7 +173,7 @@ pub fn highest_in(s: Setup, room: u64) -> usize
     ensures { λ r. ⌜ (r ≡ orNobody (highest (rankBy (s .priorities)) (member room) (s .clients))) × (r ≤ 64) ⌝ }
 {
     let priorities = s.priorities;
-    highest_of(&priorities, room, wide(s.clients))
+    highest_of(&priorities, room, gate::wide(s.clients))
 }
 
 // A number below 64 as a place holds it.

@@ -53,7 +53,7 @@ fn all_may_wait(s: Setup, k: usize, room: u64, stand: u64) -> bool
     requires { ⌜ Fine s ⌝ }
     ensures { λ r. ⌜ r ≡ allBelow (s .clients) (mayWait (setupOf s) k room stand) ⌝ }
 {
-    let n = standing::wide(s.clients);
+    let n = gate::wide(s.clients);
     let mut c: usize = 0;
     while c < n {
         if !may_wait(s, k, room, stand, c) {
@@ -71,14 +71,14 @@ fn room_sound(s: Setup, k: usize, line: Line, room: u64, stand: u64) -> bool
     if room == 0 {
         return true;
     }
-    if !all_below(room, standing::wide(s.clients)) {
+    if !all_below(room, gate::wide(s.clients)) {
         return false;
     }
     if !all_may_wait(s, k, room, stand) {
         return false;
     }
     let q = line.places;
-    standing::wide(s.sizes[k]) <= places::used(&q)
+    gate::wide(s.sizes[k]) <= places::used(&q)
 }
 
 fn rooms_sound(s: Setup, lines: [Line; 8], rooms: [u64; 8], stand: u64) -> bool
@@ -111,7 +111,7 @@ fn front_sound(s: Setup, lines: [Line; 8], c: usize) -> bool
     requires { ⌜ Fine s ⌝ }
     ensures { λ r. ⌜ r ≡ (ltb c (s .clients) && heads c (linesIn lines (setupOf s .cluster c))) ⌝ }
 {
-    if standing::wide(s.clients) <= c {
+    if gate::wide(s.clients) <= c {
         return false;
     }
     fronts::is_first(s, lines, c)
@@ -137,7 +137,7 @@ fn spent_sound(s: Setup, rooms: [u64; 8], stand: u64, c: usize) -> bool
     if sets::member(stand, c) {
         return false;
     }
-    let k = fronts::home(s, c);
+    let k = rows::cluster_of(s, c);
     !sets::member(rooms[k], c)
 }
 
@@ -151,9 +151,9 @@ fn server_sound(g: Gate, stand: u64) -> bool
     let server = g.server;
     match server {
         Server::Idle => idle_sound(g.units, stand),
-        Server::Front(c) => front_sound(s, lines, fronts::number(c)),
-        Server::Best(c) => best_sound(s, stand, fronts::number(c)),
-        Server::Spent(c) => spent_sound(s, rooms, stand, fronts::number(c)),
+        Server::Front(c) => front_sound(s, lines, rows::index(c)),
+        Server::Best(c) => best_sound(s, stand, rows::index(c)),
+        Server::Spent(c) => spent_sound(s, rooms, stand, rows::index(c)),
     }
 }
 

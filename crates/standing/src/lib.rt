@@ -22,12 +22,6 @@ pub enum Seen {
     Once(u64),
 }
 
-pub fn wide(x: u8) -> usize
-    ensures { λ r. ⌜ r ≡ x ⌝ }
-{
-    x as usize
-}
-
 // THE SETUP
 
 // Nothing but zeros from a place on.
@@ -63,10 +57,10 @@ fn zero_past(s: Setup) -> bool
     ensures { λ r. ⌜ r ≡ zeroPast s ⌝ }
 {
     let sizes = s.sizes;
-    if !zeros_from(&sizes, wide(s.clusters)) {
+    if !zeros_from(&sizes, gate::wide(s.clusters)) {
         return false;
     }
-    let n = wide(s.clients);
+    let n = gate::wide(s.clients);
     let kinds = s.kinds;
     if !zeros_from(&kinds, n) {
         return false;
@@ -110,7 +104,7 @@ pub fn is_real(s: Setup, c: usize) -> bool
     requires { ⌜ Fine s ⌝ }
     ensures { λ r. ⌜ r ≡ isReal (setupOf s) c ⌝ }
 {
-    if wide(s.clients) <= c {
+    if gate::wide(s.clients) <= c {
         return false;
     }
     s.kinds[c] == 0
@@ -124,7 +118,7 @@ pub fn of_cluster(s: Setup, k: usize, c: usize) -> bool
     if !is_real(s, c) {
         return false;
     }
-    wide(s.homes[c]) == k
+    gate::wide(s.homes[c]) == k
 }
 
 // Below N and best-effort.
@@ -132,7 +126,7 @@ pub fn of_background(s: Setup, c: usize) -> bool
     requires { ⌜ Fine s ⌝ }
     ensures { λ r. ⌜ r ≡ ofBackground (setupOf s) c ⌝ }
 {
-    if wide(s.clients) <= c {
+    if gate::wide(s.clients) <= c {
         return false;
     }
     s.kinds[c] != 0
@@ -143,7 +137,7 @@ fn may_stand(s: Setup, k: usize, at: usize, c: usize) -> bool
     requires { ⌜ (k < maxClusters) × Fine s ⌝ }
     ensures { λ r. ⌜ r ≡ (ltb at (setupOf s .size k) && ofCluster (setupOf s) k c) ⌝ }
 {
-    if wide(s.sizes[k]) <= at {
+    if gate::wide(s.sizes[k]) <= at {
         return false;
     }
     of_cluster(s, k, c)
@@ -167,7 +161,7 @@ fn lines_seen(s: Setup, lines: [Line; 8]) -> Seen
             if q[j] == places::UNUSED {
                 break 'places;
             }
-            let c = wide(q[j]);
+            let c = gate::wide(q[j]);
             if !may_stand(s, k, j, c) {
                 break 'lines;
             }
@@ -196,7 +190,7 @@ fn background_seen(s: Setup, q: [u8; 64], others: u64) -> Seen
         if q[i] == places::UNUSED {
             break;
         }
-        let c = wide(q[i]);
+        let c = gate::wide(q[i]);
         if !of_background(s, c) {
             return Seen::Unsound;
         }

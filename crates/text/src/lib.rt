@@ -6,6 +6,11 @@ ghost use Prim.Native.Nat.{_+_, _≤_, _<_};
 ghost use lib.ListN.{length};
 ghost use Rattle.text.specs.Text.{decimal, WroteAt};
 
+// What ends a line.
+pub const LF: u8 = 10;
+
+pub const SPACE: u8 = 32;
+
 // One byte at a place.
 pub fn put_byte(out: &mut [u8], at: usize, b: u8) -> usize
     requires { ⌜ at < length (now out) ⌝ }
@@ -26,6 +31,13 @@ pub fn put_bytes(out: &mut [u8], at: usize, s: &[u8]) -> usize
         i += 1;
     }
     at + i
+}
+
+// A size as a number to be written.
+pub fn wide_size(x: usize) -> u64
+    ensures { λ r. ⌜ r ≡ x ⌝ }
+{
+    x as u64
 }
 
 // The digits of a number from a place on.

@@ -13,14 +13,14 @@ use Rattle.fronts.proofs.Firsts.{no-front, heads-first}
 use Rattle.fronts.proofs.is_first.Statement.{statement}
 use Rattle.fronts.proofs.is_first.Tie as tie
 
-home-requires : tie.Need-home-requires
-home-requires c κs = search needs
+cluster-of-requires : tie.Need-cluster-of-requires
+cluster-of-requires c κs = search needs
 
 mul-line : tie.Need-mul-line
-mul-line c = record { fits = omega (arith, c .home .ensures, c .before .pre .homes (c .before .args .c)) }
+mul-line c = record { fits = omega (arith, c .cluster-of .ensures, c .before .pre .homes (c .before .args .c)) }
 
 array-copy-out-line : tie.Need-array-copy-out-line
-array-copy-out-line c = omega (arith, c .home .ensures, c .before .pre .homes (c .before .args .c))
+array-copy-out-line c = omega (arith, c .cluster-of .ensures, c .before .pre .homes (c .before .args .c))
 
 array-read-if1 : tie.Need-array-read-if1
 array-read-if1 c = search needs
@@ -29,12 +29,12 @@ returns : tie.Need-returns
 returns c =
     let h = c .before .before .before in
     let a = h .before .args in
-    let q = getD (a .t2) (h .home .result) blankLine .places in
-    let b : h .home .result < length (a .t2) =
-    omega (arith, lines-length (a .t2) 8 _ (h .before .good .1 .0), h .home .ensures, h .before .pre .homes (a .c)) in
-    let n = lines-each (a .t2) 8 _ (h .before .good .1 .0) (h .home .result) blankLine b in
+    let q = getD (a .t2) (h .cluster-of .result) blankLine .places in
+    let b : h .cluster-of .result < length (a .t2) =
+    omega (arith, lines-length (a .t2) 8 _ (h .before .good .1 .0), h .cluster-of .ensures, h .before .pre .homes (a .c)) in
+    let n = lines-each (a .t2) 8 _ (h .before .good .1 .0) (h .cluster-of .result) blankLine b in
     sym (ap (heads (a .c)) (no-front q (omega (arith, n)) (c .if1 .taken)))
-    ∙ ap (λ (k : ℕ). heads (a .c) (linesIn (a .t2) k)) (h .home .ensures)
+    ∙ ap (λ (k : ℕ). heads (a .c) (linesIn (a .t2) k)) (h .cluster-of .ensures)
 
 array-read-wide : tie.Need-array-read-wide
 array-read-wide c = search needs
@@ -46,19 +46,19 @@ returns-2 : tie.Need-returns-2
 returns-2 c =
     let h = c .before .before .before .before in
     let a = h .before .args in
-    let q = getD (a .t2) (h .home .result) blankLine .places in
-    let b : h .home .result < length (a .t2) =
-    omega (arith, lines-length (a .t2) 8 _ (h .before .good .1 .0), h .home .ensures, h .before .pre .homes (a .c)) in
-    let n = lines-each (a .t2) 8 _ (h .before .good .1 .0) (h .home .result) blankLine b in
+    let q = getD (a .t2) (h .cluster-of .result) blankLine .places in
+    let b : h .cluster-of .result < length (a .t2) =
+    omega (arith, lines-length (a .t2) 8 _ (h .before .good .1 .0), h .cluster-of .ensures, h .before .pre .homes (a .c)) in
+    let n = lines-each (a .t2) 8 _ (h .before .good .1 .0) (h .cluster-of .result) blankLine b in
     rw (c .wide .ensures)
     (sym (heads-first (a .c) q (omega (arith, n)) (c .before .if1 .left))
-    ∙ ap (λ (k : ℕ). heads (a .c) (linesIn (a .t2) k)) (h .home .ensures))
+    ∙ ap (λ (k : ℕ). heads (a .c) (linesIn (a .t2) k)) (h .cluster-of .ensures))
 
 pub is-first-spec : {M : Type 1} → statement M
 is-first-spec =
     tie.close
     (tie.spec
-    home-requires
+    cluster-of-requires
     mul-line
     array-copy-out-line
     array-read-if1

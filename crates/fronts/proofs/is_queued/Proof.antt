@@ -23,8 +23,8 @@ returns-2 c =
       sym (c .before .is-served .ensures) ∙ c .if2 .taken,
     )
 
-home-requires : tie.Need-home-requires
-home-requires c κs = search needs
+cluster-of-requires : tie.Need-cluster-of-requires
+cluster-of-requires c κs = search needs
 
 is-blocked-requires : tie.Need-is-blocked-requires
 is-blocked-requires c κs = search needs
@@ -37,7 +37,7 @@ returns-3 c =
       sym (f .before .is-first .ensures) ∙ not-false _ (f .if1 .left),
       sym (i .before .is-served .ensures) ∙ i .if2 .left,
       c .is-blocked .ensures,
-      c .before .home .ensures,
+      c .before .cluster-of .ensures,
     )
 
 pub is-queued-spec : {M : Type 1} → statement M
@@ -48,6 +48,6 @@ is-queued-spec =
     returns
     is-served-requires
     returns-2
-    home-requires
+    cluster-of-requires
     is-blocked-requires
     returns-3)

@@ -10,8 +10,8 @@ enum-told c = search needs
 enum-known-server : tie.Need-enum-known-server
 enum-known-server c = search needs
 
-number-requires : tie.Need-number-requires
-number-requires c κs = search needs
+index-requires : tie.Need-index-requires
+index-requires c κs = search needs
 
 enum-told-2 : tie.Need-enum-told-2
 enum-told-2 c = search needs
@@ -23,7 +23,7 @@ returns : tie.Need-returns
 returns c = search needs
 
 returns-2 : tie.Need-returns-2
-returns-2 c = rw (c .before .before .server .given .1, c .number .ensures)
+returns-2 c = rw (c .before .before .server .given .1, c .index .ensures)
 
 returns-3 : tie.Need-returns-3
 returns-3 c = search needs
@@ -37,7 +37,7 @@ is-served-spec =
     (tie.spec
     enum-told
     enum-known-server
-    number-requires
+    index-requires
     enum-told-2
     enum-told-3
     returns

@@ -27,18 +27,18 @@ returns-2 c =
       sym (c .before .member .ensures) ∙ c .if2 .taken,
     )
 
-home-requires : tie.Need-home-requires
-home-requires c κs = search needs
+cluster-of-requires : tie.Need-cluster-of-requires
+cluster-of-requires c κs = search needs
 
 mul-member : tie.Need-mul-member
 mul-member c =
     let s = c .before .before .before .before .before in
-    record { fits = omega (arith, c .home .ensures, s .pre .homes (s .args .c)) }
+    record { fits = omega (arith, c .cluster-of .ensures, s .pre .homes (s .args .c)) }
 
 array-read-member : tie.Need-array-read-member
 array-read-member c =
     let s = c .before .before .before .before .before in
-    omega (arith, c .home .ensures, s .pre .homes (s .args .c))
+    omega (arith, c .cluster-of .ensures, s .pre .homes (s .args .c))
 
 member-requires-2 : tie.Need-member-requires-2
 member-requires-2 c κs = search needs
@@ -56,7 +56,7 @@ returns-3 c =
       sym (m .before .member .ensures) ∙ m .if2 .left,
       lt-ltb (a .c) maxClients (omega (arith, known, s .pre .clients)),
       c .member2 .ensures,
-      c .before .home .ensures,
+      c .before .cluster-of .ensures,
     )
 
 pub spent-sound-spec : {M : Type 1} → statement M
@@ -67,7 +67,7 @@ spent-sound-spec =
     returns
     member-requires
     returns-2
-    home-requires
+    cluster-of-requires
     mul-member
     array-read-member
     member-requires-2

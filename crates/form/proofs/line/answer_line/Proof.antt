@@ -33,8 +33,8 @@ put-number-requires-2 c κs = search needs
 put-byte-requires-2 : tie.Need-put-byte-requires-2
 put-byte-requires-2 c κs = search needs
 
-wide-requires : tie.Need-wide-requires
-wide-requires c κs = search needs
+wide-size-requires : tie.Need-wide-size-requires
+wide-size-requires c κs = search needs
 
 put-number-requires-3 : tie.Need-put-number-requires-3
 put-number-requires-3 c κs = search needs
@@ -55,7 +55,7 @@ returns c = let r = c .put-byte3 in
     = omega (arith, r .ensures .ends, p .put-number3 .ensures .1) in
     let budget = decimal (q .result .budget) in
     let answer = decimal (q .result .answer) in
-    let place = decimal (p .before .wide .result) in
+    let place = decimal (p .before .wide-size .result) in
     let w = b .put-number .ensures .0 in
     let w = wrote-on w (omega arith) (t .ensures) in
     let w = wrote-on w (omega arith) (a .put-number2 .ensures .0) in
@@ -63,7 +63,7 @@ returns c = let r = c .put-byte3 in
     let w = wrote-on w (omega arith) (p .put-number3 .ensures .0) in
     let w = wrote-on w (omega arith) (r .ensures) in
     let text = joined budget answer place
-    ∙ ap (λ (n : ℕ). budget ++ space ∷ answer ++ space ∷ decimal n ++ lf ∷ []) (p .before .wide .ensures)
+    ∙ ap (λ (n : ℕ). budget ++ space ∷ answer ++ space ∷ decimal n ++ lf ∷ []) (p .before .wide-size .ensures)
     ∙ ap line (q .ensures) in (
       (fits, sym (length-take-le (r .result) (r .last .0) fits)),
       subst (λ (x : List ℕ). Wrote x start (r .last .0) (r .result)) text w,
@@ -78,7 +78,7 @@ answer-line-spec =
     put-byte-requires
     put-number-requires-2
     put-byte-requires-2
-    wide-requires
+    wide-size-requires
     put-number-requires-3
     put-byte-requires-3
     returns)
