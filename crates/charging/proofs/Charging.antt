@@ -1,7 +1,7 @@
 -- The charged clients, as a gate shows them, in a sound state.
 -- Assumes nothing.
 use Prim.Native.Nat.{_<_, ℕ}
-use mathlib.Core.Bool.{Bool, _&&_, _||_, false, true}
+use mathlib.Core.Bool.{Bool, _&&_, _||_, false, true, and-false}
 use mathlib.Core.Path.{_∙_, _≡_, ap, ap₂, refl, sym}
 use native.Mathlib.Omega.{arith}
 use lib.Dec.{eqb, ltb}
@@ -9,28 +9,27 @@ use lib.ListN.{getD}
 use borrow.Author.Tests.{eqb-false, eqb-true}
 use Rattle.rules.specs.Events.{charged, precedes}
 use Rattle.rules.specs.Limits.{maxClients, maxClusters, maxSize}
-use Rattle.rules.specs.Lists.{count, has}
+use Rattle.rules.specs.Lists.{countBelow, has}
 use Rattle.rules.specs.Queues.{inRoom, waits}
 use Rattle.rules.specs.Rank.{outranks}
 use Rattle.rules.specs.Setup.{realTime}
 use Rattle.rules.specs.Sound.{Sound}
 use Rattle.rules.specs.State.{State}
 use Rattle.rules.proofs.Setups.{allowed}
-use Rattle.rules.proofs.Tests.{and-true, by-test, clash, not-so, or-true}
+use Rattle.rules.proofs.Tests.{both-true, by-test, clash, not-so, either-true}
 use Rattle.sets.specs.Sets.{member, setOf}
-use Rattle.sets.proofs.Laws.{member-setOf}
+use Rattle.sets.proofs.Laws.{member-setOf, setOf-cut}
 use Rattle.places.proofs.Pads.{has-pad}
 use Rattle.gate.specs.Shown.{setupOf}
 use Rattle.gate.specs.Shows.{Shows}
 use Rattle.gate.specs.declared.Gate.{Gate}
 use Rattle.gate.specs.declared.Line.{Line}
 use Rattle.gate.specs.declared.Setup.{Setup}
-use Rattle.rows.proofs.Bools.{and-none}
 use Rattle.rows.proofs.Ranks.{rank-is}
 use Rattle.moves.proofs.Parts.{line-at, room-at}
 use Rattle.presence.proofs.Here.{someone}
 use Rattle.charging.specs.Charged.{chargedIn, precedesIn, waitingIn}
-use Rattle.charging.proofs.Building.{count-same, setOf-cut}
+use Rattle.charging.proofs.Building.{count-same}
 
 module _ {v : Setup} {s : State} {g : Gate} (h : Shows v s g) (sound : Sound (setupOf v) s) where
   abbrev pub isCharged : ℕ → Bool
@@ -39,18 +38,18 @@ module _ {v : Setup} {s : State} {g : Gate} (h : Shows v s g) (sound : Sound (se
   -- who waits is real-time and below N
   waits-real : (c : ℕ) → waits (setupOf v) s c ≡ true → realTime (setupOf v) c ≡ true
   waits-real c e =
-      or-true (has c (s .lines (setupOf v .cluster c))) (s .room c) e
+      either-true (has c (s .lines (setupOf v .cluster c))) (s .room c) e
       (sound .lines (setupOf v .cluster c) .real c) (λ q. sound .room c q .real)
 
   waits-known : (c : ℕ) → waits (setupOf v) s c ≡ true → c < v .clients
   waits-known c e =
-      or-true (has c (s .lines (setupOf v .cluster c))) (s .room c) e
+      either-true (has c (s .lines (setupOf v .cluster c))) (s .room c) e
       (sound .lines (setupOf v .cluster c) .known c) (λ q. sound .room c q .known)
 
   pub charged-known : (c : ℕ) → isCharged c ≡ true → c < v .clients
   charged-known c e =
-      let z = and-true (realTime (setupOf v) c) (waits (setupOf v) s c && _) e in
-      waits-known c (and-true (waits (setupOf v) s c) _ (z .1) .0)
+      let z = both-true (realTime (setupOf v) c) (waits (setupOf v) s c && _) e in
+      waits-known c (both-true (waits (setupOf v) s c) _ (z .1) .0)
 
   pub charged-home : (c : ℕ) → isCharged c ≡ true → setupOf v .cluster c < v .clusters
   charged-home c e = allowed (setupOf v) (sound .setup) .homes c (charged-known c e)
@@ -64,7 +63,7 @@ module _ {v : Setup} {s : State} {g : Gate} (h : Shows v s g) (sound : Sound (se
       (λ e.
       let out : has c (s .lines k) ≡ false =
       not-so (has c (s .lines k)) (λ q. eqb-false (setupOf v .cluster c) k e (sound .lines k .home c q)) in
-      rw (e, out) (and-none (s .room c) ∙ sym (and-none (waits (setupOf v) s c))))
+      rw (e, out) (and-false (s .room c) ∙ sym (and-false (waits (setupOf v) s c))))
     where
       here : (a b : Bool) → a || (b && true) ≡ (a || b) && true
       here true b = refl
@@ -98,7 +97,7 @@ module _ {v : Setup} {s : State} {g : Gate} (h : Shows v s g) (sound : Sound (se
       where
         away : eqb (setupOf v .cluster c) k ≡ false
             → (waits (setupOf v) s c && eqb (setupOf v .cluster c) k)
-            && ltb (count (precedesIn (v .priorities) waiting c) (v .clients)) (setupOf v .size k)
+            && ltb (countBelow (precedesIn (v .priorities) waiting c) (v .clients)) (setupOf v .size k)
             ≡ isCharged c && eqb (setupOf v .cluster c) k
         away e = rw e (none (waits (setupOf v) s c) _ (isCharged c))
           where
@@ -110,7 +109,7 @@ module _ {v : Setup} {s : State} {g : Gate} (h : Shows v s g) (sound : Sound (se
 
         here : eqb (setupOf v .cluster c) k ≡ true
             → (waits (setupOf v) s c && eqb (setupOf v .cluster c) k)
-            && ltb (count (precedesIn (v .priorities) waiting c) (v .clients)) (setupOf v .size k)
+            && ltb (countBelow (precedesIn (v .priorities) waiting c) (v .clients)) (setupOf v .size k)
             ≡ isCharged c && eqb (setupOf v .cluster c) k
         here e =
             let q = eqb-true (setupOf v .cluster c) k e in

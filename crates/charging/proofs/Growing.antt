@@ -1,7 +1,7 @@
 -- Charges and units after a run, as a gate shows them, in a sound state.
 -- Assumes nothing.
 use Prim.Native.Nat.{_+_, _-_, _<_, _≤_, ℕ}
-use mathlib.Core.Bool.{Bool, _&&_, cond, false, true}
+use mathlib.Core.Bool.{Bool, _&&_, cond, false, true, and-false}
 use mathlib.Core.List.{List}
 use mathlib.Core.Path.{_∙_, _≡_, ap, sym}
 use native.Mathlib.Omega.{arith}
@@ -24,7 +24,6 @@ use Rattle.gate.specs.Shows.{Shows}
 use Rattle.gate.specs.declared.Gate.{Gate}
 use Rattle.gate.specs.declared.Setup.{Setup}
 use Rattle.gate.proofs.Tables.{list-table, set-table, table-at, table-same}
-use Rattle.rows.proofs.Bools.{and-none}
 use Rattle.moves.specs.Parts.{putCharges, putServer}
 use Rattle.moves.proofs.Parts.{charge-at, shows-charges, shows-server}
 use Rattle.charging.specs.Charged.{grown, overchargesIn}
@@ -62,7 +61,7 @@ module _ {v : Setup} {s : State} {g : Gate} (h : Shows v s g) (sound : Sound (se
       inside c =
           by-test (charged (setupOf v) (outranks (setupOf v) s) s c)
           (λ e. rw (e, lt-ltb c (v .clients) (charged-known h sound c e)))
-          (λ e. rw e (and-none (ltb c (v .clients))))
+          (λ e. rw e (and-false (ltb c (v .clients))))
 
 -- a charge more
 pub grown-turn : (charges : List ℕ) (s n c x : ℕ) → c < maxClients → x ≡ getD charges c 0 + cond (member s c) n 0

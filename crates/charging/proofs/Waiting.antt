@@ -1,7 +1,7 @@
 -- The set of those in a line and a room, place by place.
 -- Assumes nothing.
 use Prim.Native.Nat.{_+_, _<_, _^_, _≤_, suc, ℕ}
-use mathlib.Core.Bool.{Bool, _||_, cond, true}
+use mathlib.Core.Bool.{Bool, _||_, cond, true, or-true}
 use mathlib.Core.List.{List}
 use mathlib.Core.Path.{_≡_, sym}
 use native.Mathlib.Numerals.{add-one}
@@ -14,7 +14,6 @@ use Rattle.rules.specs.Lists.{has, upd}
 use Rattle.rules.proofs.Tests.{by-test}
 use Rattle.sets.specs.Sets.{member, withOf}
 use Rattle.sets.proofs.Laws.{member-setOf, setOf-member, setOf-same}
-use Rattle.rows.proofs.Bools.{or-last}
 use Rattle.charging.specs.Charged.{waitingIn}
 
 -- who stands at place i has joined
@@ -28,7 +27,7 @@ waiting-turn q s i h =
     go : (x : ℕ) (a b : Bool) (c : ℕ) → a || cond (eqb c x) true b ≡ (eqb x c || a) || b
     go x a b c =
         by-test (eqb x c)
-        (λ e. rw (e, eq-eqb c x (sym (eqb-true x c e))) (or-last a))
+        (λ e. rw (e, eq-eqb c x (sym (eqb-true x c e))) (or-true a))
         (λ e. rw (e, ne-eqb c x (λ q. eqb-false x c e (sym q))))
 
 -- all have

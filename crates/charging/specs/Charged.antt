@@ -6,7 +6,7 @@ use mathlib.Core.List.{List}
 use lib.Dec.{ltb}
 use lib.ListN.{getD}
 use Rattle.rules.specs.Limits.{maxClients, maxCharge}
-use Rattle.rules.specs.Lists.{has, count}
+use Rattle.rules.specs.Lists.{has, countBelow}
 use Rattle.sets.specs.Sets.{member, setOf}
 use Rattle.rows.specs.Ranks.{rankBy}
 
@@ -20,7 +20,7 @@ precedesIn ps waiting c d = member waiting d && rankBy ps d c
 
 -- c is in the waiting set, and fewer than m clients below n that are there too outrank it
 abbrev pub chargedIn : List ℕ → ℕ → ℕ → ℕ → ℕ → Bool
-chargedIn ps waiting n m c = member waiting c && ltb (count (precedesIn ps waiting c) n) m
+chargedIn ps waiting n m c = member waiting c && ltb (countBelow (precedesIn ps waiting c) n) m
 
 -- c is in the set, and n units more would carry its charge past the limit
 abbrev pub overchargesIn : List ℕ → ℕ → ℕ → ℕ → Bool

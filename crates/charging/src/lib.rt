@@ -8,7 +8,7 @@ ghost use mathlib.Core.Bool.{true, false, _&&_, cond};
 ghost use Prim.Native.Nat.{ℕ, _+_, _≤_, _<_};
 ghost use lib.Dec.{eqb, ltb};
 ghost use lib.ListN.{length};
-ghost use Rattle.rules.specs.Limits.{maxCharge};
+ghost use Rattle.rules.specs.Limits.{maxClusters, maxClients, maxCap, maxCharge};
 ghost use Rattle.rules.specs.Lists.{someBelow};
 ghost use Rattle.rules.specs.State.{State};
 ghost use Rattle.rules.specs.Rank.{outranks};
@@ -41,7 +41,7 @@ fn waiting_in(l: Line, room: u64) -> u64
 
 // The set, with d if it waits and outranks c.
 fn with_higher(priorities: &[u16], waiting: u64, c: usize, d: usize, s: u64) -> u64
-    requires { ⌜ (length (now priorities) ≡ 64) × (c < 64) × (d < 64) ⌝ }
+    requires { ⌜ (length (now priorities) ≡ maxClients) × (c < maxClients) × (d < maxClients) ⌝ }
     ensures { λ r. ⌜ r ≡ cond (precedesIn (now (priorities .entry)) waiting c d) (withOf s d) s ⌝ }
 {
     if !sets::member(waiting, d) {
@@ -55,7 +55,7 @@ fn with_higher(priorities: &[u16], waiting: u64, c: usize, d: usize, s: u64) -> 
 
 // The waiting clients below n that outrank c.
 fn outranking(priorities: &[u16], waiting: u64, c: usize, n: usize) -> u64
-    requires { ⌜ (length (now priorities) ≡ 64) × (c < 64) × (n ≤ 64) ⌝ }
+    requires { ⌜ (length (now priorities) ≡ maxClients) × (c < maxClients) × (n ≤ maxClients) ⌝ }
     ensures { λ r. ⌜ r ≡ setOf n (precedesIn (now (priorities .entry)) waiting c) ⌝ }
 {
     let mut s: u64 = 0;
@@ -71,7 +71,7 @@ fn outranking(priorities: &[u16], waiting: u64, c: usize, n: usize) -> u64
 
 // The set, with c if it waits and fewer than m of the waiting clients below n outrank it.
 fn with_charged(priorities: &[u16], waiting: u64, n: usize, m: usize, c: usize, s: u64) -> u64
-    requires { ⌜ (length (now priorities) ≡ 64) × (c < 64) × (n ≤ 64) ⌝ }
+    requires { ⌜ (length (now priorities) ≡ maxClients) × (c < maxClients) × (n ≤ maxClients) ⌝ }
     ensures { λ r. ⌜ r ≡ cond (chargedIn (now (priorities .entry)) waiting n m c) (withOf s c) s ⌝ }
 {
     if !sets::member(waiting, c) {
@@ -85,7 +85,7 @@ fn with_charged(priorities: &[u16], waiting: u64, n: usize, m: usize, c: usize, 
 
 // The charged clients below n of a cluster of size m.
 fn charged_among(priorities: &[u16], waiting: u64, n: usize, m: usize) -> u64
-    requires { ⌜ (length (now priorities) ≡ 64) × (n ≤ 64) ⌝ }
+    requires { ⌜ (length (now priorities) ≡ maxClients) × (n ≤ maxClients) ⌝ }
     ensures { λ r. ⌜ r ≡ setOf n (chargedIn (now (priorities .entry)) waiting n m) ⌝ }
 {
     let mut s: u64 = 0;
@@ -99,10 +99,10 @@ fn charged_among(priorities: &[u16], waiting: u64, n: usize, m: usize) -> u64
 
 // The charged clients of a cluster.
 fn charged_of(g: Gate, k: Cluster) -> u64
-    requires { ⌜ (k .0 < 8) × Fine (g .setup) ⌝ }
+    requires { ⌜ (k .0 < maxClusters) × Fine (g .setup) ⌝ }
     ensures { λ r.
         ⌜ ((v : given.Setup) (s : State) → Shows v s g → Sound (setupOf v) s
-        → r ≡ setOf 64 (λ (c : ℕ). charged (setupOf v) (outranks (setupOf v) s) s c
+        → r ≡ setOf maxClients (λ (c : ℕ). charged (setupOf v) (outranks (setupOf v) s) s c
         && eqb (setupOf v .cluster c) (k .0))) ⌝ }
 {
     let i = k.0;
@@ -121,10 +121,10 @@ fn charged_of(g: Gate, k: Cluster) -> u64
 
 // The charged clients.
 pub fn charged(g: Gate) -> u64
-    requires { ⌜ Fine (g .setup) × (g .setup .clusters ≤ 8) ⌝ }
+    requires { ⌜ Fine (g .setup) × (g .setup .clusters ≤ maxClusters) ⌝ }
     ensures { λ r.
         ⌜ ((v : given.Setup) (s : State) → Shows v s g → Sound (setupOf v) s
-        → r ≡ setOf 64 (charged (setupOf v) (outranks (setupOf v) s) s)) ⌝ }
+        → r ≡ setOf maxClients (charged (setupOf v) (outranks (setupOf v) s) s)) ⌝ }
 {
     let n = gate::wide(g.setup.clusters);
     let mut s: u64 = 0;
@@ -157,7 +157,7 @@ fn overcharged(charge: u32, inside: bool, n: u16) -> bool
 
 // Whether n units more would carry the charge of one of the clients in the set past the limit.
 pub fn overcharges(charges: &[u32; 64], set: u64, n: u16, clients: usize) -> bool
-    requires { ⌜ clients ≤ 64 ⌝ }
+    requires { ⌜ clients ≤ maxClients ⌝ }
     ensures { λ r. ⌜ r ≡ someBelow (overchargesIn (now (charges .entry)) set n) clients ⌝ }
 {
     let mut c: usize = 0;
@@ -183,8 +183,8 @@ fn charge_after(charge: u32, inside: bool, n: u16) -> u32
 
 // The charges, with n units more for each client in the set.
 fn charges_after(charges: [u32; 64], set: u64, n: u16, clients: usize) -> [u32; 64]
-    requires { ⌜ (clients ≤ 64) × (someBelow (overchargesIn charges set n) clients ≡ false) ⌝ }
-    ensures { λ r. ⌜ r ≡ table 64 (grown charges set n clients) ⌝ }
+    requires { ⌜ (clients ≤ maxClients) × (someBelow (overchargesIn charges set n) clients ≡ false) ⌝ }
+    ensures { λ r. ⌜ r ≡ table maxClients (grown charges set n clients) ⌝ }
 {
     let mut cs = charges;
     let mut c: usize = 0;
@@ -197,10 +197,10 @@ fn charges_after(charges: [u32; 64], set: u64, n: u16, clients: usize) -> [u32; 
 
 // Run n. Units served grow by n. The charge of each client in the set grows by n.
 pub fn ran(g: Gate, set: u64, n: u16) -> Gate
-    requires { ⌜ (g .setup .clients ≤ 64) × (g .units + n ≤ 65535)
+    requires { ⌜ (g .setup .clients ≤ maxClients) × (g .units + n ≤ maxCap)
         × (someBelow (overchargesIn (g .charges) set n) (g .setup .clients) ≡ false) ⌝ }
     ensures { λ r.
-        ⌜ r ≡ putCharges (table 64 (grown (g .charges) set n (g .setup .clients)))
+        ⌜ r ≡ putCharges (table maxClients (grown (g .charges) set n (g .setup .clients)))
         (putServer (g .server) (g .units + n) g) ⌝ }
 {
     let charges = g.charges;

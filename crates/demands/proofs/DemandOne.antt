@@ -1,8 +1,8 @@
 -- Demand 1: what is done with nonsense. Each public function has an answer for whatever it is handed; these say which.
 -- Assumes nothing.
 use Prim.Native.Nat.{ℕ, _+_, _*_}
-use mathlib.Core.Path.{_≡_, refl, sym, ap, _∙_}
-use mathlib.Core.Bool.{Bool, true, false, not, _||_, cond}
+use mathlib.Core.Path.{_≡_, refl, ap, _∙_}
+use mathlib.Core.Bool.{false, not, _||_}
 use mathlib.Core.List.{List, _++_}
 use mathlib.Core.Option.{Option}
 use lib.Dec.{eqb, ltb}
@@ -14,9 +14,8 @@ use Rattle.rules.specs.Refusals.{accepted, unsound, fieldOut, logCut}
 use Rattle.rules.specs.Setup.{setupAnswer}
 use Rattle.rules.specs.State.{fresh}
 use Rattle.rules.specs.Events.{Event}
-use Rattle.rules.specs.Records.{answerOf}
 use Rattle.rules.specs.Replay.{entriesFrom}
-use Rattle.rules.specs.Quote.{Order, Quote, fieldsFit, firstFalse, budgetOf, quote}
+use Rattle.rules.specs.Quote.{Order, fieldsFit, firstFalse, budgetOf, quote}
 use Rattle.rules.proofs.Tests.{by-test}
 use Rattle.rules.proofs.Theorems.{refused-same}
 use Rattle.gate.specs.declared.Setup.{Setup}
@@ -32,7 +31,7 @@ use Rattle.log.specs.declared.Refusal.{Refusal}
 use Rattle.log.specs.Opening.{told, setupIn, openingOf}
 use Rattle.log.specs.Reading.{recordSize}
 use Rattle.report.specs.Report.{heading, entryLines, refusedLine, whole, recordsIn, lastLines, replayed, reportOf}
-use Rattle.demands.proofs.Steps.{step-sound}
+use Rattle.step.proofs.Doors.{step-sound}
 
 -- An unsound gate is answered 19, and handed back.
 pub unsound-gate : (g : Gate) (o : Option Event) → soundOf g ≡ false

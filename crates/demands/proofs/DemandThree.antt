@@ -1,25 +1,25 @@
 -- Demand 3: how much of a real-time client's budget others can burn while it waits.
 -- Assumes nothing.
 use Prim.Native.Nat.{ℕ, _≤_, _<_}
-use mathlib.Core.Path.{_≡_, refl, sym, ap, _∙_}
+use mathlib.Core.Path.{_≡_, sym, ap, _∙_}
 use mathlib.Core.Bool.{true, false}
 use mathlib.Core.List.{List, [], _∷_}
-use borrow.Author.Tests.{eq-eqb}
 use lib.ListN.{getD}
 use Rattle.rules.specs.Limits.{maxClients}
-use Rattle.rules.specs.Refusals.{accepted, unsound}
+use Rattle.rules.specs.Refusals.{unsound}
 use Rattle.rules.specs.Setup as rules
-use Rattle.rules.specs.Setup.{Accepted, setupAnswer, realTime, service}
-use Rattle.rules.specs.State.{State, fresh}
+use Rattle.rules.specs.Setup.{Accepted, realTime, service}
+use Rattle.rules.specs.State.{fresh}
 use Rattle.rules.specs.Sound.{Sound}
-use Rattle.rules.specs.Records.{Record, eventOf, answerOf, stepOf}
+use Rattle.rules.specs.Records.{Record, eventOf}
 use Rattle.rules.specs.History.{after, owed, struck}
 use Rattle.rules.specs.Demands.{worst, worstUnstruck}
 use Rattle.rules.proofs.Theorems.{sound-stays, stored-is-sum, bounded, bounded-unstruck, nineteen-never}
 use Rattle.gate.specs.declared.Setup.{Setup}
 use Rattle.gate.specs.declared.Gate.{Gate}
-use Rattle.gate.specs.Shown.{setupOf, shown, table}
-use Rattle.gate.specs.Made.{trimmedIn, freshGate, made}
+use Rattle.gate.specs.Shown.{setupOf, shown}
+use Rattle.gate.specs.Made.{trimmedIn, made}
+use Rattle.gate.proofs.Making.{made-shown}
 use Rattle.gate.proofs.Tables.{table-at}
 use Rattle.gate.proofs.SoundShows.{fresh-sound}
 use Rattle.step.specs.Stepped.{Told, stepped}
@@ -31,17 +31,13 @@ module _ (v : Setup) (a : Accepted (setupOf v)) where
   abbrev pub u : rules.Setup
   u = setupOf (trimmedIn v)
 
-  made-shown : made v .gate ≡ shown (trimmedIn v) fresh
-  unfolding made freshGate
-  made-shown = rw (eq-eqb (setupAnswer (setupOf v)) accepted (a .no-refusal))
-
   sound-after : (h : List Record) → Sound u (after u h)
   sound-after [] = fresh-sound v a
   sound-after (r ∷ h) = sound-stays u (after u h) (eventOf r) (sound-after h)
 
   -- After any records the gate shows the state that the rules come to.
   pub shows-after : (h : List Record) → gateAfter (made v .gate) h ≡ shown (trimmedIn v) (after u h)
-  shows-after [] = made-shown
+  shows-after [] = made-shown v (a .no-refusal)
   shows-after (r ∷ h) =
       ap (λ (g : Gate). stepped g (eventOf r) .gate) (shows-after h)
       ∙ ap (λ (t : Told). t .gate) (step-shown (trimmedIn v) (after u h) (eventOf r) (sound-after h))

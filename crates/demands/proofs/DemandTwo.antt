@@ -1,9 +1,8 @@
 -- Demand 2: which rule decides. From any sound gate an event leaves exactly what the rules give.
 -- Assumes nothing.
-use mathlib.Core.Path.{_≡_, refl, sym, ap, ap₂, _∙_}
+use mathlib.Core.Path.{_≡_, sym, ap, ap₂, _∙_}
 use mathlib.Core.Bool.{true}
 use mathlib.Core.Option.{Option}
-use Rattle.rules.specs.Refusals.{accepted}
 use Rattle.rules.specs.Events.{Event}
 use Rattle.rules.specs.Records.{answerOf, stepOf}
 use Rattle.gate.specs.declared.Gate.{Gate}
@@ -13,7 +12,7 @@ use Rattle.events.specs.declared.Answer.{Answer}
 use Rattle.events.specs.declared.Answered.{Answered}
 use Rattle.events.proofs.Only.{one-answer}
 use Rattle.step.specs.Stepped.{Told, toldIn, stepped}
-use Rattle.demands.proofs.Steps.{step-sound}
+use Rattle.step.proofs.Doors.{step-sound}
 
 module _ (g : Gate) (sound : soundOf g ≡ true) (o : Option Event) where
   -- The gate after it is the shown form of the state that the rules give ..

@@ -1,28 +1,18 @@
 -- A step of a gate that shows a sound state.
 -- Assumes nothing.
-use Prim.Native.Nat.{ℕ}
-use mathlib.Core.Path.{_≡_, refl, ap, ap₂, _∙_}
-use mathlib.Core.Bool.{true, false}
+use mathlib.Core.Path.{_≡_, refl, _∙_}
 use mathlib.Core.Option.{Option}
 use Rattle.rules.specs.State.{State}
 use Rattle.rules.specs.Sound.{Sound}
 use Rattle.rules.specs.Events.{Event}
 use Rattle.rules.specs.Records.{answerOf, stepOf}
 use Rattle.gate.specs.declared.Setup.{Setup}
-use Rattle.gate.specs.declared.Gate.{Gate}
 use Rattle.gate.specs.Shown.{setupOf, stateOf, shown}
+use Rattle.gate.proofs.Reading.{shown-setup}
 use Rattle.gate.proofs.SoundShows.{sound-back}
-use Rattle.soundness.specs.Clauses.{soundOf}
 use Rattle.soundness.proofs.Exact.{shown-passes}
-use Rattle.step.specs.Stepped.{Told, ruled, stepped}
-
-pub step-sound : (g : Gate) (o : Option Event) → soundOf g ≡ true → stepped g o ≡ ruled g o
-unfolding stepped
-step-sound g o h = rw h
-
-setup-shown : (v : Setup) (s : State) → shown v s .setup ≡ v
-unfolding shown
-setup-shown v s = refl
+use Rattle.step.specs.Stepped.{Told, stepped}
+use Rattle.step.proofs.Doors.{step-sound}
 
 -- what the rules give of the shown state
 ruled-shown : (w v : Setup) (t s : State) (o : Option Event) → w ≡ v → t ≡ s
@@ -35,4 +25,4 @@ pub step-shown : (v : Setup) (s : State) (o : Option Event) → Sound (setupOf v
     → stepped (shown v s) o ≡ record { number = answerOf (setupOf v) s o; gate = shown v (stepOf (setupOf v) s o) }
 step-shown v s o h =
     step-sound (shown v s) o (shown-passes v s h)
-    ∙ ruled-shown (shown v s .setup) v (stateOf (shown v s)) s o (setup-shown v s) (sound-back v s h)
+    ∙ ruled-shown (shown v s .setup) v (stateOf (shown v s)) s o (shown-setup v s (shown v s) refl) (sound-back v s h)

@@ -20,7 +20,7 @@ use Rattle.rules.proofs.InOrder.{InOrder, own, turns}
 use Rattle.rules.proofs.Lists.{distinct-right, heads-length, heads-same, length-remove, remove-none}
 use Rattle.rules.proofs.Setups.{allowed}
 use Rattle.rules.proofs.SoundStates.{sound-in-order}
-use Rattle.rules.proofs.Tests.{by-test, clash, not-so, or-true}
+use Rattle.rules.proofs.Tests.{by-test, clash, not-so, either-true}
 use Rattle.gate.specs.Shown.{setupOf}
 use Rattle.gate.specs.Shows.{Fine}
 use Rattle.gate.specs.declared.Setup.{Setup}
@@ -57,7 +57,7 @@ module _ (v : Setup) (s : State) (sound : Sound (setupOf v) s) where
     where
       below : (j : ℕ) → has j (k ∷ map (setupOf v .cluster) (s .global)) ≡ true → j < maxClusters
       below j e =
-          or-true (eqb k j) (has j (map (setupOf v .cluster) (s .global))) e
+          either-true (eqb k j) (has j (map (setupOf v .cluster) (s .global))) e
           (λ q. omega (arith, eqb-true k j q)) (queue-below j)
 
   -- who is in the global queue is the front of its line
@@ -80,7 +80,7 @@ module _ (v : Setup) (s : State) (sound : Sound (setupOf v) s) where
     where
       below : (x : ℕ) → has x (c ∷ s .background) ≡ true → x < maxClients
       below x e =
-          or-true (eqb c x) (has x (s .background)) e
+          either-true (eqb c x) (has x (s .background)) e
           (λ q. omega (arith, eqb-true c x q, i .known, fine .clients))
           (λ q. omega (arith, sound .background .known x q, fine .clients))
 

@@ -7,6 +7,7 @@ use gate::Server;
 ghost use mathlib.Core.Path.{_≡_};
 ghost use Prim.Native.Nat.{_<_};
 ghost use lib.ListN.{length};
+ghost use Rattle.rules.specs.Limits.{maxClusters, maxClients};
 ghost use Rattle.rules.specs.Lists.{remove};
 ghost use Rattle.rules.specs.State.{State, front, spent};
 ghost use Rattle.rules.specs.Rank.{outranks};
@@ -25,7 +26,7 @@ ghost use Rattle.effects.specs.Finds.{enters, Ready, Turn, Yields};
 // Real-time: its charge becomes 0; it joins the end of its line if there is room, else the waiting room. If it became
 // front, it joins the global queue, unless its cluster is blocked.
 fn arrived(g: Gate, c: Client) -> Gate
-    requires { ⌜ (c .0 < 64) × Fine (g .setup) ⌝ }
+    requires { ⌜ (c .0 < maxClients) × Fine (g .setup) ⌝ }
     ensures { λ r.
         ⌜ ((v : given.Setup) (s : State) → Shows v s g → Ready v s (c .0)
         → Shows v (arrive (setupOf v) (c .0) (s .lines (setupOf v .cluster (c .0))) s) r) ⌝ }
@@ -53,7 +54,7 @@ fn arrived(g: Gate, c: Client) -> Gate
 
 // Best-effort: joins the background queue.
 fn behind(g: Gate, c: Client) -> Gate
-    requires { ⌜ c .0 < 64 ⌝ }
+    requires { ⌜ c .0 < maxClients ⌝ }
     ensures { λ r.
         ⌜ ((v : given.Setup) (s : State) → Shows v s g → Ready v s (c .0) → Shows v (behind (c .0) s) r) ⌝ }
 {
@@ -66,7 +67,7 @@ fn behind(g: Gate, c: Client) -> Gate
 
 // The one or the other by its kind.
 fn entered(g: Gate, c: Client) -> Gate
-    requires { ⌜ (c .0 < 64) × Fine (g .setup) ⌝ }
+    requires { ⌜ (c .0 < maxClients) × Fine (g .setup) ⌝ }
     ensures { λ r.
         ⌜ ((v : given.Setup) (s : State) → Shows v s g → Ready v s (c .0)
         → Shows v (enters (setupOf v) (c .0) s) r) ⌝ }
@@ -79,7 +80,7 @@ fn entered(g: Gate, c: Client) -> Gate
 
 // Invoke c. Last, if the server is idle, pick.
 pub fn invoked(g: Gate, c: Client) -> Gate
-    requires { ⌜ (c .0 < 64) × Fine (g .setup) ⌝ }
+    requires { ⌜ (c .0 < maxClients) × Fine (g .setup) ⌝ }
     ensures { λ r.
         ⌜ ((v : given.Setup) (s : State) → Shows v s g → Ready v s (c .0)
         → Shows v (invoked (setupOf v) (c .0) s) r) ⌝ }
@@ -104,7 +105,7 @@ fn shorter(l: Line, x: u8) -> Line
 
 // c leaves its line, then refill.
 fn gone(g: Gate, c: Client) -> Gate
-    requires { ⌜ (c .0 < 64) × Fine (g .setup) ⌝ }
+    requires { ⌜ (c .0 < maxClients) × Fine (g .setup) ⌝ }
     ensures { λ r.
         ⌜ (r .setup ≡ g .setup)
         × ((v : given.Setup) (s : State) → Shows v s g
@@ -130,9 +131,9 @@ fn freed(g: Gate) -> Gate
 
 // The request of a front ends: it leaves its line, then refill, and the next front joins the global queue.
 fn front_ended(g: Gate, c: Client) -> Gate
-    requires { ⌜ (c .0 < 64) × Fine (g .setup) ⌝ }
+    requires { ⌜ (c .0 < maxClients) × Fine (g .setup) ⌝ }
     ensures { λ r.
-        ⌜ ((v : given.Setup) (s : State) → Shows v s g → length (s .global) < 8
+        ⌜ ((v : given.Setup) (s : State) → Shows v s g → length (s .global) < maxClusters
         → Shows v (ended (setupOf v) (outranks (setupOf v) s) (front (c .0)) s) r) ⌝ }
 {
     let k = rows::home(g.setup, c);
@@ -141,9 +142,9 @@ fn front_ended(g: Gate, c: Client) -> Gate
 
 // The request of a spent client ends: its cluster stops being blocked, and the front there joins the global queue.
 fn spent_ended(g: Gate, c: Client) -> Gate
-    requires { ⌜ (c .0 < 64) × Fine (g .setup) ⌝ }
+    requires { ⌜ (c .0 < maxClients) × Fine (g .setup) ⌝ }
     ensures { λ r.
-        ⌜ ((v : given.Setup) (s : State) → Shows v s g → length (s .global) < 8
+        ⌜ ((v : given.Setup) (s : State) → Shows v s g → length (s .global) < maxClusters
         → Shows v (ended (setupOf v) (outranks (setupOf v) s) (spent (c .0)) s) r) ⌝ }
 {
     let k = rows::home(g.setup, c);
@@ -177,7 +178,7 @@ pub fn replied(g: Gate) -> Gate
 
 // c leaves the global queue, and the others keep their order.
 fn unqueued(g: Gate, c: Client) -> Gate
-    requires { ⌜ c .0 < 64 ⌝ }
+    requires { ⌜ c .0 < maxClients ⌝ }
     ensures { λ r. ⌜ r ≡ putGlobal (takeOutOf (c .0) (g .global)) g ⌝ }
 {
     let mut q = g.global;
@@ -189,9 +190,9 @@ fn unqueued(g: Gate, c: Client) -> Gate
 
 // A front that is not in service leaves line and global queue, and the new front joins the end of that queue.
 fn front_aborted(g: Gate, c: Client) -> Gate
-    requires { ⌜ (c .0 < 64) × Fine (g .setup) ⌝ }
+    requires { ⌜ (c .0 < maxClients) × Fine (g .setup) ⌝ }
     ensures { λ r.
-        ⌜ ((v : given.Setup) (s : State) → Shows v s g → length (remove (c .0) (s .global)) < 8
+        ⌜ ((v : given.Setup) (s : State) → Shows v s g → length (remove (c .0) (s .global)) < maxClusters
         → Shows v (queue (setupOf v) (setupOf v .cluster (c .0)) (gone (setupOf v) (outranks (setupOf v) s) (c .0)
         (unqueue (c .0) s))) r) ⌝ }
 {
@@ -202,7 +203,7 @@ fn front_aborted(g: Gate, c: Client) -> Gate
 // Abort c. In the waiting room: leaves. Front in service: leaves the line, and stays in service as spent. Front and
 // not in service: leaves line and global queue. In the line but not front: leaves.
 pub fn aborted(g: Gate, c: Client) -> Gate
-    requires { ⌜ (c .0 < 64) × Fine (g .setup) ⌝ }
+    requires { ⌜ (c .0 < maxClients) × Fine (g .setup) ⌝ }
     ensures { λ r.
         ⌜ ((v : given.Setup) (s : State) → Shows v s g → Turn v s (c .0)
         → Shows v (aborted (setupOf v) (outranks (setupOf v) s) (c .0) s) r) ⌝ }
@@ -218,7 +219,7 @@ pub fn aborted(g: Gate, c: Client) -> Gate
         return n;
     }
     let server = g.server;
-    if presence::is_front(server, c) {
+    if rows::is_front(server, at) {
         return gone(moves::with_server(g, Server::Spent(c), g.units), c);
     }
     let line = g.lines[i];

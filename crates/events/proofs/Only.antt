@@ -19,8 +19,8 @@ use Rattle.events.specs.declared.Answered.{Answered}
 use Rattle.events.specs.declared.Answer.the-variants as is
 
 -- the case of a number; of a number that no case has, any
-answerOf : ℕ → Answer
-answerOf n =
+answerFor : ℕ → Answer
+answerFor n =
     cond (eqb n accepted) is.Accepted
     (cond (eqb n noClient) is.NoClient
     (cond (eqb n waitsAlready) is.WaitsAlready
@@ -33,8 +33,8 @@ answerOf n =
     (cond (eqb n unknownRecord) is.Unknown
     is.Unsound)))))))))
 
-number-back : (a : Answer) → answerOf (numberOf a) ≡ a
-unfolding answerOf
+number-back : (a : Answer) → answerFor (numberOf a) ≡ a
+unfolding answerFor
 number-back is.Accepted = refl
 number-back is.NoClient = refl
 number-back is.WaitsAlready = refl
@@ -49,7 +49,7 @@ number-back is.Unsound = refl
 
 -- each case has a number of its own
 pub one-answer : (a b : Answer) → numberOf a ≡ numberOf b → a ≡ b
-one-answer a b e = sym (number-back a) ∙ ap answerOf e ∙ number-back b
+one-answer a b e = sym (number-back a) ∙ ap answerFor e ∙ number-back b
 
 -- the gate after is the shown form of the state after
 pub gate-is : {v : Setup} {s : State} {e : Event} {r : Answered} → Answers v s e r

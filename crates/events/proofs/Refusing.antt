@@ -7,7 +7,6 @@ use native.Mathlib.Omega.{arith}
 use lib.Dec.{leb, ltb}
 use borrow.Author.Tests.{eq-eqb, le-leb, lt-leb, ne-eqb}
 use Rattle.rules.specs.Events.{abort, invoke, reply, run}
-use Rattle.rules.specs.Limits.{maxClients}
 use Rattle.rules.specs.Queues.{waits}
 use Rattle.rules.specs.Refusals.{accepted, bestEffort, noClient, notWaiting, runOfNone, runPastCap, serverIdle}
 use Rattle.rules.specs.Refusals.{spentAlready, waitsAlready}
@@ -29,9 +28,6 @@ module _ {v : Setup} {s : State} {g : Gate} (h : Shows v s g) where
   module _ (c : ℕ) {n i : ℕ} (clients : n ≡ g .setup .clients) (index : i ≡ c) where
     clients-is : n ≡ v .clients
     clients-is = clients ∙ ap (λ u. u .clients) (h .setup)
-
-    pub client-known : i < n → c < maxClients
-    client-known b = omega (arith, clients-is, h .fine .clients)
 
     pub invoke-unknown : n ≤ i → answer (setupOf v) s (invoke c) ≡ noClient
     unfolding answer

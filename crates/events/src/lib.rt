@@ -6,6 +6,7 @@ use gate::Gate;
 ghost use mathlib.Core.Path.{_≡_};
 ghost use Prim.Native.Nat.{_+_, _≤_};
 ghost use lib.Dec.{ltb};
+ghost use Rattle.rules.specs.Limits.{maxCap};
 ghost use Rattle.rules.specs.State.{State};
 ghost use Rattle.rules.specs.Events as rules;
 ghost use Rattle.rules.specs.Sound.{Sound};
@@ -93,7 +94,7 @@ fn passes_cap(cap: u16, units: u32, n: u16) -> bool
 
 // The last of a run: 19 for the charge, or the run.
 fn charged(g: Gate, n: u16) -> Answered
-    requires { ⌜ Usable g × (g .units + n ≤ 65535) ⌝ }
+    requires { ⌜ Usable g × (g .units + n ≤ maxCap) ⌝ }
     ensures { λ r.
         ⌜ ((v : given.Setup) (s : State) → Shows v s g → Sound (setupOf v) s → Charges v s n r) ⌝ }
 {

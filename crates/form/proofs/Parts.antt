@@ -13,33 +13,33 @@ use borrow.Author.Tests.{eq-eqb, ne-eqb}
 use Rattle.rules.proofs.Tests.{by-test}
 use Rattle.form.specs.declared.Taken.{Taken}
 use Rattle.text.specs.Text.{lf}
-use Rattle.form.specs.Parts.{before, ends, passed, held, roomAfter, TakenIn}
+use Rattle.form.specs.Parts.{firstLine, ends, passed, held, roomAfter, TakenIn}
 use Rattle.form.proofs.Room.{count-none, after-none, held-more, after-more, held-least}
 
 module _ (s : List ℕ) (i : ℕ) (there : i < length s) where
   module _ (here : getD s i 0 ≡ lf) where
-    pub before-lf : before (drop i s) ≡ []
-    before-lf = rw (drop-cons s i 0, eq-eqb (getD s i 0) lf here)
+    pub firstLine-lf : firstLine (drop i s) ≡ []
+    firstLine-lf = rw (drop-cons s i 0, eq-eqb (getD s i 0) lf here)
 
     pub ends-lf : ends (drop i s) ≡ true
     ends-lf = rw (drop-cons s i 0, eq-eqb (getD s i 0) lf here)
 
     pub passed-lf : passed (drop i s) ≡ 1
-    passed-lf = rw (before-lf, ends-lf)
+    passed-lf = rw (firstLine-lf, ends-lf)
 
   module _ (not-here : getD s i 0 ≡ lf → ⊥) where
-    before-on : before (drop i s) ≡ getD s i 0 ∷ before (drop (i + 1) s)
-    before-on = rw (add-one, drop-cons s i 0, ne-eqb (getD s i 0) lf not-here)
+    firstLine-on : firstLine (drop i s) ≡ getD s i 0 ∷ firstLine (drop (i + 1) s)
+    firstLine-on = rw (add-one, drop-cons s i 0, ne-eqb (getD s i 0) lf not-here)
 
     ends-on : ends (drop i s) ≡ ends (drop (i + 1) s)
     ends-on = rw (add-one, drop-cons s i 0, ne-eqb (getD s i 0) lf not-here)
 
     passed-on : passed (drop i s) ≡ suc (passed (drop (i + 1) s))
-    passed-on = rw (before-on, ends-on) (omega arith)
+    passed-on = rw (firstLine-on, ends-on) (omega arith)
 
 module _ (s : List ℕ) (i : ℕ) (past : length s ≤ i) where
-  pub before-end : before (drop i s) ≡ []
-  before-end = rw (drop-of-length-le s past)
+  pub firstLine-end : firstLine (drop i s) ≡ []
+  firstLine-end = rw (drop-of-length-le s past)
 
   pub ends-end : ends (drop i s) ≡ false
   ends-end = rw (drop-of-length-le s past)
@@ -60,8 +60,8 @@ passed-some s i h = rw (drop-cons s i 0) (passed-first (getD s i 0) (drop (suc i
 pub record Going (part : List ℕ) (at : ℕ) (start : List ℕ) (first : ℕ) (room : List ℕ) (i k : ℕ) : Type 0 where
   pub fits : k ≤ length room
   pub long : length room ≡ length start
-  pub same-held : held room k (before (drop i part)) ≡ held start first (before (drop at part))
-  pub same-room : roomAfter room k (before (drop i part)) ≡ roomAfter start first (before (drop at part))
+  pub same-held : held room k (firstLine (drop i part)) ≡ held start first (firstLine (drop at part))
+  pub same-room : roomAfter room k (firstLine (drop i part)) ≡ roomAfter start first (firstLine (drop at part))
   pub same-passed : i + passed (drop i part) ≡ at + passed (drop at part)
   pub same-ends : ends (drop i part) ≡ ends (drop at part)
 
@@ -75,8 +75,8 @@ module _ (part : List ℕ) (at : ℕ) (start : List ℕ) (first : ℕ) (room : L
   pub going-on : i < length part → (getD part i 0 ≡ lf → ⊥)
       → Going part at start first (set room k (getD part i 0)) (i + 1) (min (k + 1) (length room))
   going-on h b =
-      let on = before-on part i h b in
-      let more = before (drop (i + 1) part) in
+      let on = firstLine-on part i h b in
+      let more = firstLine (drop (i + 1) part) in
       record {
         fits = omega (arith, length-set room k (getD part i 0));
         long = length-set room k (getD part i 0) ∙ going .long;
@@ -89,13 +89,13 @@ module _ (part : List ℕ) (at : ℕ) (start : List ℕ) (first : ℕ) (room : L
       }
 
   -- no byte more
-  module _ (done : before (drop i part) ≡ []) where
-    count-done : k ≡ length (held start first (before (drop at part)))
+  module _ (done : firstLine (drop i part) ≡ []) where
+    count-done : k ≡ length (held start first (firstLine (drop at part)))
     count-done =
         sym (count-none room k (going .fits)) ∙ ap (λ (s : List ℕ). length (held room k s)) (sym done)
         ∙ ap length (going .same-held)
 
-    room-done : room ≡ roomAfter start first (before (drop at part))
+    room-done : room ≡ roomAfter start first (firstLine (drop at part))
     room-done =
         sym (after-none room k (going .fits)) ∙ ap (roomAfter room k) (sym done) ∙ going .same-room
 
@@ -103,7 +103,7 @@ module _ (part : List ℕ) (at : ℕ) (start : List ℕ) (first : ℕ) (room : L
     pub taken : (n : ℕ) → first ≡ min n (length start) → (r : Taken) → r .n ≡ k → r .next ≡ i + passed (drop i part)
         → r .ended ≡ ends (drop i part) → TakenIn part at start room n r
     taken n f r k′ next e =
-        let more = before (drop at part) in
+        let more = firstLine (drop at part) in
         let h : held start first more ≡ held start n more
         = ap (λ (m : ℕ). held start m more) f ∙ held-least start n more in
         record {

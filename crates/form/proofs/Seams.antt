@@ -15,8 +15,8 @@ use Rattle.order.specs.Orders.{asked}
 use Rattle.rules.proofs.Tests.{by-test}
 use Rattle.order.proofs.Asked.{too-long}
 use Rattle.text.specs.Text.{lf}
-use Rattle.form.specs.Input.{cr, trimmed, orderBefore, ordersFrom}
-use Rattle.form.specs.Parts.{before, ends, passed}
+use Rattle.form.specs.Input.{cr, withoutCr, orderBefore, ordersFrom}
+use Rattle.form.specs.Parts.{firstLine, ends, passed}
 
 -- the room of the program: an order of 1,023 bytes, a CR, and one byte more
 abbrev room : ℕ
@@ -51,12 +51,12 @@ enough e s =
 
 -- A PART WITHOUT AN LF
 
-before-all : (t : List ℕ) → ends t ≡ false → before t ≡ t
-before-all [] e = refl
-before-all (b ∷ t) e =
+firstLine-all : (t : List ℕ) → ends t ≡ false → firstLine t ≡ t
+firstLine-all [] e = refl
+firstLine-all (b ∷ t) e =
     by-test (eqb b lf)
     (λ y. absurd (subst T (rw y at e) tt))
-    (λ n. rw n (ap (λ (s : List ℕ). b ∷ s) (before-all t (rw n at e))))
+    (λ n. rw n (ap (λ (s : List ℕ). b ∷ s) (firstLine-all t (rw n at e))))
 
 orders-on : (begun t rest : List ℕ) → ends t ≡ false → ordersFrom begun (t ++ rest) ≡ ordersFrom (begun ++ t) rest
 orders-on begun [] rest e = rw append-nil
@@ -68,12 +68,12 @@ orders-on begun (b ∷ t) rest e =
 -- A PART WITH AN LF
 
 orders-end : (begun t rest : List ℕ) → ends t ≡ true
-    → ordersFrom begun (t ++ rest) ≡ trimmed (begun ++ before t) ∷ ordersFrom [] (drop (passed t) t ++ rest)
+    → ordersFrom begun (t ++ rest) ≡ withoutCr (begun ++ firstLine t) ∷ ordersFrom [] (drop (passed t) t ++ rest)
 orders-end begun [] rest e = absurd (subst T (sym e) tt)
 orders-end begun (b ∷ t) rest e =
     by-test (eqb b lf) (λ y. rw (y, append-nil))
     (λ n.
-    let p : suc (length (before t)) + cond (ends t) 1 0 ≡ suc (passed t) = omega arith in
+    let p : suc (length (firstLine t)) + cond (ends t) 1 0 ≡ suc (passed t) = omega arith in
     rw (n, p) (orders-end (begun ++ (b ∷ [])) t rest (rw n at e) ∙ rw append-assoc))
 
 -- THE STEPS OF THE PROGRAM
@@ -83,21 +83,21 @@ module _ (begun part rest : List ℕ) where
   -- up to an LF: the order is answered, and the next one begins behind it
   pub at-lf : ends part ≡ true
       → map asked (ordersFrom begun (part ++ rest))
-      ≡ asked (orderBefore true (take room (take room begun ++ before part)))
+      ≡ asked (orderBefore true (take room (take room begun ++ firstLine part)))
       ∷ map asked (ordersFrom [] (drop (passed part) part ++ rest))
   at-lf e =
-      let order = ap (λ (u : List ℕ). asked (orderBefore true u)) (held-on room begun (before part)) in
+      let order = ap (λ (u : List ℕ). asked (orderBefore true u)) (held-on room begun (firstLine part)) in
       ap (map asked) (orders-end begun part rest e)
       ∙ ap (λ (q : Quote). q ∷ map asked (ordersFrom [] (drop (passed part) part ++ rest)))
-      (sym (order ∙ enough true (begun ++ before part)))
+      (sym (order ∙ enough true (begun ++ firstLine part)))
 
   -- up to the end of the part: nothing is answered, and the order goes on
   pub at-part-end : ends part ≡ false
-      → (ordersFrom begun (part ++ rest) ≡ ordersFrom (begun ++ before part) rest)
-      × (take room (take room begun ++ before part) ≡ take room (begun ++ before part))
+      → (ordersFrom begun (part ++ rest) ≡ ordersFrom (begun ++ firstLine part) rest)
+      × (take room (take room begun ++ firstLine part) ≡ take room (begun ++ firstLine part))
   at-part-end e = (
-    rw (before-all part e) (orders-on begun part rest e),
-    held-on room begun (before part),
+    rw (firstLine-all part e) (orders-on begun part rest e),
+    held-on room begun (firstLine part),
   )
 
 -- at the end of the input: what is held is answered, if there is any

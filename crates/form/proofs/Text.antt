@@ -7,16 +7,16 @@ use mathlib.Core.List.{List}
 use lib.ListN.{length, getD, take}
 use lib.Seq.{take-take, getD-take, length-take-le}
 use borrow.Author.Tests.{eq-eqb, ne-eqb}
-use Rattle.form.specs.Input.{cr, trimmed}
+use Rattle.form.specs.Input.{cr, withoutCr}
 
 module _ (room : List ℕ) (k : ℕ) (fits : k ≤ length room) (some : 0 < k) where
   last-byte : getD (take k room) (length (take k room) - 1) 0 ≡ getD room (k - 1) 0
   last-byte = rw (length-take-le k room fits) (getD-take k room (k - 1) 0 (omega arith))
 
-  pub with-cr : getD room (k - 1) 0 ≡ cr → take (k - 1) room ≡ trimmed (take k room)
+  pub with-cr : getD room (k - 1) 0 ≡ cr → take (k - 1) room ≡ withoutCr (take k room)
   with-cr e =
       let last = eq-eqb (getD (take k room) (length (take k room) - 1) 0) cr (last-byte ∙ e) in
       rw (last, length-take-le k room fits, take-take (k - 1) k room (omega arith))
 
-  pub with-none : (getD room (k - 1) 0 ≡ cr → ⊥) → take k room ≡ trimmed (take k room)
+  pub with-none : (getD room (k - 1) 0 ≡ cr → ⊥) → take k room ≡ withoutCr (take k room)
   with-none e = rw (ne-eqb (getD (take k room) (length (take k room) - 1) 0) cr (λ y. e (sym last-byte ∙ y)))

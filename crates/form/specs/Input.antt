@@ -14,17 +14,17 @@ abbrev pub cr : ℕ
 cr = 13
 
 -- without its last byte, if that is a CR
-abbrev pub trimmed : List ℕ → List ℕ
-trimmed s = cond (eqb (getD s (length s - 1) 0) cr) (take (length s - 1) s) s
+abbrev pub withoutCr : List ℕ → List ℕ
+withoutCr s = cond (eqb (getD s (length s - 1) 0) cr) (take (length s - 1) s) s
 
 -- an order, from what stands before its end: an LF, or the end of the input
 abbrev pub orderBefore : Bool → List ℕ → List ℕ
-orderBefore ended s = cond ended (trimmed s) s
+orderBefore ended s = cond ended (withoutCr s) s
 
 -- the orders of what is left of an input, after bytes with which one has begun
 abbrev pub ordersFrom : List ℕ → List ℕ → List (List ℕ)
 ordersFrom begun [] = cond (eqb (length begun) 0) [] (begun ∷ [])
-ordersFrom begun (b ∷ s) = cond (eqb b lf) (trimmed begun ∷ ordersFrom [] s) (ordersFrom (begun ++ (b ∷ [])) s)
+ordersFrom begun (b ∷ s) = cond (eqb b lf) (withoutCr begun ∷ ordersFrom [] s) (ordersFrom (begun ++ (b ∷ [])) s)
 
 abbrev pub orders : List ℕ → List (List ℕ)
 orders s = ordersFrom [] s

@@ -13,5 +13,5 @@ abbrev pub line : Quote → List ℕ
 line q = decimal (q .budget) ++ space ∷ decimal (q .answer) ++ space ∷ decimal (q .place) ++ lf ∷ []
 
 -- the answer to an order, of which the bytes before its end are held, is written
-abbrev pub Answered : Bool → List ℕ → List ℕ → List ℕ → ℕ → Type 0
-Answered ended held before after n = Wrote (line (asked (orderBefore ended held))) before after n
+abbrev pub AnswerWritten : Bool → List ℕ → List ℕ → List ℕ → ℕ → Type 0
+AnswerWritten ended held before after n = Wrote (line (asked (orderBefore ended held))) before after n

@@ -10,9 +10,9 @@ use Rattle.form.specs.declared.Taken.{Taken}
 use Rattle.text.specs.Text.{lf}
 
 -- the bytes before the first LF, and whether there is one
-abbrev pub before : List ℕ → List ℕ
-before [] = []
-before (b ∷ s) = cond (eqb b lf) [] (b ∷ before s)
+abbrev pub firstLine : List ℕ → List ℕ
+firstLine [] = []
+firstLine (b ∷ s) = cond (eqb b lf) [] (b ∷ firstLine s)
 
 abbrev pub ends : List ℕ → Bool
 ends [] = false
@@ -20,7 +20,7 @@ ends (b ∷ s) = eqb b lf || ends s
 
 -- how many bytes that is, with the LF
 abbrev pub passed : List ℕ → ℕ
-passed s = length (before s) + cond (ends s) 1 0
+passed s = length (firstLine s) + cond (ends s) 1 0
 
 -- what is held: the first bytes of an order, as many as there is room for
 abbrev pub held : List ℕ → ℕ → List ℕ → List ℕ
@@ -34,5 +34,5 @@ roomAfter room n more = held room n more ++ drop (length (held room n more)) roo
 pub record TakenIn (part : List ℕ) (at : ℕ) (room after : List ℕ) (n : ℕ) (r : Taken) : Type 0 where
   pub ended : r .ended ≡ ends (drop at part)
   pub next : r .next ≡ at + passed (drop at part)
-  pub count : r .n ≡ length (held room n (before (drop at part)))
-  pub bytes : after ≡ roomAfter room n (before (drop at part))
+  pub count : r .n ≡ length (held room n (firstLine (drop at part)))
+  pub bytes : after ≡ roomAfter room n (firstLine (drop at part))

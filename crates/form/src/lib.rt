@@ -2,15 +2,14 @@
 mod line;
 
 use line::answer_line;
+use text::LF;
 ghost use mathlib.Core.Path.{_≡_};
 ghost use Prim.Native.Nat.{_+_, _≤_, min};
 ghost use lib.ListN.{length, take, set};
 ghost use Rattle.io.specs.Counts.{Counts};
 ghost use Rattle.form.specs.Input.{orderBefore};
-ghost use Rattle.form.specs.Output.{Answered};
+ghost use Rattle.form.specs.Output.{AnswerWritten};
 ghost use Rattle.form.specs.Parts.{TakenIn};
-
-const LF: u8 = 10;
 
 const CR: u8 = 13;
 
@@ -48,7 +47,7 @@ pub fn take_in(part: &[u8], at: usize, room: &mut [u8], n: usize) -> Taken
 // Writes the line that answers the order of which the first n bytes are held, where an LF ended it or the input did.
 pub fn answer(room: &[u8], n: usize, ended: bool, out: &mut [u8; 64]) -> usize
     ensures { λ r. ⌜ Counts r (now (out .exit)) ⌝ }
-    ensures { λ r. ⌜ Answered ended (take n (now (room .entry))) (now (out .entry)) (now (out .exit)) r ⌝ }
+    ensures { λ r. ⌜ AnswerWritten ended (take n (now (room .entry))) (now (out .entry)) (now (out .exit)) r ⌝ }
 {
     let k = without_cr(room, least(n, room.len()), ended);
     answer_line(order::ask(&room[..k]), out)

@@ -5,7 +5,6 @@ use text::SPACE;
 use text::put_byte;
 use text::put_number;
 use text::wide_size;
-ghost use mathlib.Core.Path.{_≡_};
 ghost use Rattle.io.specs.Counts.{Counts};
 ghost use Rattle.quote.specs.Told.{told};
 ghost use Rattle.text.specs.Text.{Wrote};

@@ -12,7 +12,7 @@ use Rattle.rules.specs.Limits.{maxClusters, maxClients}
 use Rattle.rules.specs.Lists.{has}
 use Rattle.rules.specs.Setup as rules
 use Rattle.rules.specs.State.{State}
-use Rattle.rules.proofs.Tests.{by-test, and-true}
+use Rattle.rules.proofs.Tests.{by-test, both-true}
 use Rattle.places.specs.Places.{unpad}
 use Rattle.soundness.specs.Tests.{every, distinct}
 use Rattle.soundness.specs.Clauses.{laid, globalSound}
@@ -32,12 +32,12 @@ unfolding globalSound
 global-is u few s q =
     let test : ℕ → Bool = mayQueue u (s .lines) (s .server) in
     by-test (laid maxClusters q && every test (unpad q))
-    (λ e. rw (e, seen-once (unpad q) (below (and-true (laid maxClusters q) (every test (unpad q)) e .1)))
+    (λ e. rw (e, seen-once (unpad q) (below (both-true (laid maxClusters q) (every test (unpad q)) e .1)))
     (by-test (distinct (unpad q)) (λ d. rw d) (λ d. rw d)))
     (λ e. rw e)
   where
     below : every (mayQueue u (s .lines) (s .server)) (unpad q) ≡ true → (x : ℕ) → has x (unpad q) ≡ true
         → x < maxClients
     below e x h =
-        let b = and-true (ltb x (u .clients)) _ (every-has (mayQueue u (s .lines) (s .server)) (unpad q) x e h) in
+        let b = both-true (ltb x (u .clients)) _ (every-has (mayQueue u (s .lines) (s .server)) (unpad q) x e h) in
         omega (arith, ltb-true x (u .clients) (b .0))

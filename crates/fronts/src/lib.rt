@@ -1,5 +1,6 @@
 // The global queue: whether it holds exactly the fronts that are not in service and whose cluster isn't blocked.
 
+use gate::Cluster;
 use gate::Gate;
 use gate::Line;
 use gate::Server;
@@ -9,7 +10,6 @@ ghost use mathlib.Core.Path.{_≡_};
 ghost use Prim.Native.Nat.{_≤_, _<_};
 ghost use Rattle.rules.specs.Limits.{maxClusters};
 ghost use Rattle.rules.specs.Lists.{heads};
-ghost use Rattle.rules.specs.State.{isFront};
 ghost use Rattle.gate.specs.Shown.{setupOf, serverOf, stateOf};
 ghost use Rattle.gate.specs.Shows.{Fine};
 ghost use Rattle.soundness.specs.Tests.{firstIn};
@@ -23,24 +23,13 @@ pub fn is_first(s: Setup, lines: [Line; 8], c: usize) -> bool
     ensures { λ r. ⌜ r ≡ heads c (linesIn lines (setupOf s .cluster c)) ⌝ }
 {
     let k = rows::cluster_of(s, c);
-    let line = lines[k];
+    let i = k.0;
+    let line = lines[i];
     let q = line.places;
     if q[0] == places::UNUSED {
         return false;
     }
     gate::wide(q[0]) == c
-}
-
-// Client c is in service as a front.
-fn is_served(server: Server, c: usize) -> bool
-    ensures { λ r. ⌜ r ≡ isFront (serverOf server) c ⌝ }
-{
-    match server {
-        Server::Idle => false,
-        Server::Front(d) => rows::index(d) == c,
-        Server::Best(_) => false,
-        Server::Spent(_) => false,
-    }
 }
 
 // Client c belongs in the global queue.
@@ -51,7 +40,7 @@ fn is_queued(s: Setup, lines: [Line; 8], server: Server, c: usize) -> bool
     if !is_first(s, lines, c) {
         return false;
     }
-    if is_served(server, c) {
+    if rows::is_front(server, c) {
         return false;
     }
     !rows::is_blocked(s, server, rows::cluster_of(s, c))
@@ -95,11 +84,13 @@ fn queue_seen(s: Setup, lines: [Line; 8], server: Server, q: [u8; 8]) -> Seen
 }
 
 // The front of cluster k, if it belongs in the global queue, is there.
-fn front_seen(s: Setup, lines: [Line; 8], server: Server, queue: u64, k: usize) -> bool
-    requires { ⌜ (k < maxClusters) × Fine s ⌝ }
-    ensures { λ r. ⌜ r ≡ firstIn (queuedIn (setupOf s) (linesIn lines) (serverOf server)) queue (linesIn lines k) ⌝ }
+fn front_seen(s: Setup, lines: [Line; 8], server: Server, queue: u64, k: Cluster) -> bool
+    requires { ⌜ (k .0 < maxClusters) × Fine s ⌝ }
+    ensures { λ r.
+        ⌜ r ≡ firstIn (queuedIn (setupOf s) (linesIn lines) (serverOf server)) queue (linesIn lines (k .0)) ⌝ }
 {
-    let line = lines[k];
+    let i = k.0;
+    let line = lines[i];
     let q = line.places;
     if q[0] == places::UNUSED {
         return true;
@@ -118,7 +109,7 @@ fn fronts_seen(s: Setup, lines: [Line; 8], server: Server, queue: u64) -> bool
     let n = gate::wide(s.clusters);
     let mut k: usize = 0;
     while k < n {
-        if !front_seen(s, lines, server, queue, k) {
+        if !front_seen(s, lines, server, queue, Cluster(k)) {
             return false;
         }
         k += 1;

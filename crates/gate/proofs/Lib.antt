@@ -5,3 +5,4 @@ pub mod Making
 pub mod Tables
 pub mod Reading
 pub mod SoundShows
+pub mod Only

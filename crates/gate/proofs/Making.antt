@@ -3,7 +3,9 @@
 use mathlib.Core.Path.{_≡_, sym, ap, _∙_}
 use mathlib.Core.Bool.{true, false}
 use lib.Dec.{eqb}
+use borrow.Author.Tests.{eq-eqb}
 use Rattle.rules.specs.Refusals.{accepted}
+use Rattle.rules.specs.Setup.{setupAnswer}
 use Rattle.rules.specs.State.{fresh}
 use Rattle.gate.specs.declared.Setup.{Setup}
 use Rattle.gate.specs.declared.Gate.{Gate}
@@ -21,3 +23,8 @@ module _ (s : Setup) (v : Verdict) (g : Gate) (e : told v ≡ verdictOf (setupOf
       → madeOf (record { verdict = v; gate = g }) ≡ made s
   unfolding made freshGate emptyGate verdictOf
   made-refused a q = rw (e, q, ap (λ (t : Told). eqb (t .number) accepted) (sym e) ∙ a)
+
+-- An accepted setup's gate is at rest, with zeros past N and K.
+pub made-shown : (v : Setup) → setupAnswer (setupOf v) ≡ accepted → made v .gate ≡ shown (trimmedIn v) fresh
+unfolding made freshGate
+made-shown v a = rw (eq-eqb (setupAnswer (setupOf v)) accepted a)

@@ -2,7 +2,7 @@
 -- Assumes nothing.
 use Prim.Native.Nat.{ℕ, _^_, _≤_, _<_}
 use mathlib.Core.Path.{_≡_, refl, sym, ap, _∙_, fun-ext}
-use mathlib.Core.Bool.{Bool, true, false, _&&_}
+use mathlib.Core.Bool.{Bool, true, false, _&&_, and-true, and-false}
 use mathlib.Core.List.{List}
 use native.Mathlib.Omega.{arith}
 use lib.Dec.{eqb, ltb}
@@ -63,14 +63,6 @@ shows-is v s g h =
 fits-unpad : (n : ℕ) (l : List ℕ) → Fits n l → unpad (pad n l) ≡ l
 fits-unpad n l f = unpad-pad n l (no-unused l (λ x e. omega (arith, f .used x e))) (f .short)
 
-and-last : (b : Bool) → b ≡ b && true
-and-last true = refl
-and-last false = refl
-
-and-none : (b : Bool) → false ≡ b && false
-and-none true = refl
-and-none false = refl
-
 -- READING WHAT IS SHOWN
 
 module _ (v : Setup) (s : State) (g : Gate) (h : Shows v s g) (w : Within s) where
@@ -110,12 +102,8 @@ module _ (v : Setup) (s : State) (g : Gate) (h : Shows v s g) (w : Within s) whe
         table-at maxClusters (λ j. setOf maxClients (inK j)) k 0 (h .fine .homes c),
         member-setOf maxClients (inK k) c (ltb-true c maxClients e),
         eq-eqb k k refl,
-      ) (and-last (s .room c)))
+      ) (and-true (s .room c)))
       (λ e. rw e (sym (w .room c (ltb-false c maxClients e))))
-    where
-      and-last : (b : Bool) → b && true ≡ b
-      and-last true = refl
-      and-last false = refl
 
   pub state-back : stateOf g ≡ s
   unfolding stateOf
@@ -190,13 +178,13 @@ module _ (g : Gate) (h : LaidOut g) where
       inOwn c = ltb c maxClients && member (getD (g .rooms) (home c) 0) c
 
       here : (k c : ℕ) → c < maxClients → home c ≡ k → member (getD (g .rooms) k 0) c ≡ inOwn c && true
-      here k c l e = rw (lt-ltb c maxClients l, e) (and-last (member (getD (g .rooms) k 0) c))
+      here k c l e = rw (lt-ltb c maxClients l, e) (sym (and-true (member (getD (g .rooms) k 0) c)))
 
       away : (k : ℕ) → k < maxClusters → (c : ℕ) → c < maxClients → eqb (home c) k ≡ false
           → member (getD (g .rooms) k 0) c ≡ inOwn c && false
       away k b c l e =
           not-so (member (getD (g .rooms) k 0) c) (λ m. eqb-false (home c) k e (h .room k b .own c l m))
-          ∙ and-none (inOwn c)
+          ∙ sym (and-false (inOwn c))
 
   -- what is laid out is shown
   pub laid-shows : Shows (g .setup) (stateOf g) g
@@ -230,7 +218,6 @@ module _ (g : Gate) (h : LaidOut g) where
   pub shown-back : shown (g .setup) (stateOf g) ≡ g
   shown-back = sym (shows-is (g .setup) (stateOf g) g laid-shows)
 
--- equal readings mean equal gates
-pub same-reading : (g g′ : Gate) → LaidOut g → LaidOut g′ → g .setup ≡ g′ .setup → stateOf g ≡ stateOf g′ → g ≡ g′
-same-reading g g′ h h′ e q =
-    sym (shown-back g h) ∙ ap (λ v. shown v (stateOf g)) e ∙ ap (shown (g′ .setup)) q ∙ shown-back g′ h′
+pub shown-setup : (v : Setup) (s : State) (g : Gate) → g ≡ shown v s → g .setup ≡ v
+unfolding shown
+shown-setup v s g e = ap (λ (x : Gate). x .setup) e

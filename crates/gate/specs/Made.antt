@@ -1,14 +1,14 @@
 -- What the check of a setup answers, and the gate that is made of it.
 -- Assumes nothing.
 use Prim.Native.Nat.{ℕ, zero, suc}
-use mathlib.Core.Bool.{Bool, _&&_, cond}
+use mathlib.Core.Bool.{Bool, cond}
 use mathlib.Core.List.{List, [], _∷_}
-use lib.Dec.{eqb, ltb, leb}
+use lib.Dec.{eqb}
 use lib.ListN.{getD}
-use Rattle.rules.specs.Limits.{maxSize}
+use Rattle.rules.specs.Limits.{maxClusters, maxClients}
 use Rattle.rules.specs.Refusals.{accepted, badClusters, noCap, manyClients, badSize, badRow}
 use Rattle.rules.specs.Setup as rules
-use Rattle.rules.specs.Setup.{setupAnswer, firstBadSize, firstBadRow}
+use Rattle.rules.specs.Setup.{fitSize, fitRow, setupAnswer, firstBadSize, firstBadRow}
 use Rattle.rules.specs.State.{fresh}
 use Rattle.gate.specs.Shown.{setupOf, shown, table}
 use Rattle.gate.specs.declared.Setup.{Setup}
@@ -43,10 +43,10 @@ verdictOf u = record {
 
 -- the tests of a size and of a row, over the bytes
 abbrev pub sizeFitsIn : List ℕ → ℕ → Bool
-sizeFitsIn sizes k = leb 1 (getD sizes k 0) && leb (getD sizes k 0) maxSize
+sizeFitsIn sizes k = fitSize (getD sizes k 0)
 
 abbrev pub rowFitsIn : List ℕ → List ℕ → ℕ → ℕ → Bool
-rowFitsIn kinds homes k c = leb (getD kinds c 0) 1 && ltb (getD homes c 0) k
+rowFitsIn kinds homes k c = fitRow k (getD kinds c 0) (getD homes c 0)
 
 -- THE GATE
 
@@ -74,10 +74,10 @@ emptyBytes = record {
   clusters = 0;
   clients = 0;
   cap = 0;
-  sizes = table 8 (λ (k : ℕ). 0);
-  kinds = table 64 (λ (c : ℕ). 0);
-  homes = table 64 (λ (c : ℕ). 0);
-  priorities = table 64 (λ (c : ℕ). 0);
+  sizes = table maxClusters (λ (k : ℕ). 0);
+  kinds = table maxClients (λ (c : ℕ). 0);
+  homes = table maxClients (λ (c : ℕ). 0);
+  priorities = table maxClients (λ (c : ℕ). 0);
 }
 
 -- The empty gate: server idle, every place 255, all other numbers 0.

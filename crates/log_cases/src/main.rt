@@ -2,8 +2,10 @@
 // line for each pair, then how many came out the same and how many did not.
 use libc::STDOUT_FILENO;
 ghost use mathlib.Core.Path.{_≡_};
-ghost use mathlib.Core.Bool.{true};
+ghost use mathlib.Core.Bool.{true, false};
 ghost use Prim.Native.Nat.{_*_, _^_, _≤_, _<_};
+ghost use lib.IntN.{pos};
+ghost use lib.Signed.{ltZ};
 ghost use Rattle.report.specs.Report.{reportOf};
 
 fn main() {
@@ -51,16 +53,19 @@ fn open_argument(i: usize) -> i32 {
 
 // Whether two open files are a log and its report. One byte more is read than the largest has, so that nothing longer
 // passes for it; and a file that isn't open is neither.
-fn is_report(log: i32, expected: i32) -> bool {
+fn is_report(log: i32, expected: i32) -> bool
+    ensures { λ r. ⌜ (ltZ log (pos 0) ≡ true → r ≡ false) ⌝ }
+    ensures { λ r. ⌜ (ltZ expected (pos 0) ≡ true → r ≡ false) ⌝ }
+{
     if log < 0 {
         return false;
     }
     if expected < 0 {
         return false;
     }
-    let mut bytes = [0u8; 65537];
+    let mut bytes = [0u8; log::MAX_LOG + 1];
     let n = io::read_full(log, &mut bytes);
-    let mut text = [0u8; 263169];
+    let mut text = [0u8; replaying::MAX_TEXT + 1];
     let k = io::read_full(expected, &mut text);
     matches(&bytes[..n], &text[..k])
 }
@@ -70,7 +75,7 @@ fn matches(log: &[u8], text: &[u8]) -> bool
     ensures { λ r. ⌜ (r ≡ true → now (text .entry) ≡ reportOf (now (log .entry))) ⌝ }
     ensures { λ r. ⌜ (now (text .entry) ≡ reportOf (now (log .entry)) → r ≡ true) ⌝ }
 {
-    let mut out = [0u8; 263168];
+    let mut out = [0u8; replaying::MAX_TEXT];
     let k = replaying::report(log, &mut out);
     check::same(&out[..k], text)
 }

@@ -1,7 +1,7 @@
 -- A law for each part of the relation between gates and states: what stands there, and the gate with another.
 -- Assumes nothing.
 use Prim.Native.Nat.{_<_, ℕ}
-use mathlib.Core.Bool.{Bool, _&&_}
+use mathlib.Core.Bool.{Bool, _&&_, and-true, and-false}
 use mathlib.Core.List.{List}
 use mathlib.Core.Path.{_∙_, _≡_, ap, refl, sym}
 use lib.Dec.{eqb}
@@ -22,7 +22,6 @@ use Rattle.gate.specs.declared.Gate.{Gate}
 use Rattle.gate.specs.declared.Line.{Line}
 use Rattle.gate.specs.declared.Setup.{Setup}
 use Rattle.gate.proofs.Tables.{set-table, table-at, table-same}
-use Rattle.rows.proofs.Bools.{and-last, and-none}
 use Rattle.moves.specs.Parts.{putBackground, putCharges, putGlobal, putLine, putRoom, putServer}
 use Rattle.moves.proofs.Fits.{fits-used}
 use Rattle.gate.specs.declared.Server as given
@@ -41,13 +40,13 @@ room-set home room c k b at =
         → upd (λ y. room y && eqb (home y) k) c b x ≡ upd room c b x && eqb (home x) j
     here j e x =
         by-test (eqb x c)
-        (λ f. rw (f, eqb-true x c f, at, e, eq-eqb k k refl) (sym (and-last b)))
+        (λ f. rw (f, eqb-true x c f, at, e, eq-eqb k k refl) (sym (and-true b)))
         (λ f. rw (f, e))
 
     away : (j : ℕ) → (j ≡ k → ⊥) → (x : ℕ) → room x && eqb (home x) j ≡ upd room c b x && eqb (home x) j
     away j e x =
         by-test (eqb x c)
-        (λ f. rw (f, eqb-true x c f, at, ne-eqb k j (λ q. e (sym q))) (and-none (room c) ∙ sym (and-none b)))
+        (λ f. rw (f, eqb-true x c f, at, ne-eqb k j (λ q. e (sym q))) (and-false (room c) ∙ sym (and-false b)))
         (λ f. rw f)
 
 module _ {v : Setup} {s : State} {g : Gate} (h : Shows v s g) where

@@ -14,7 +14,7 @@ use Rattle.rules.specs.Lists.{highest}
 use Rattle.rules.specs.Queues.{enter, inRoom, refill}
 use Rattle.rules.specs.Rank.{Rank, outranks}
 use Rattle.rules.specs.State.{State, withLine}
-use Rattle.rules.proofs.Tests.{and-true}
+use Rattle.rules.proofs.Tests.{both-true}
 use Rattle.sets.specs.Sets.{member, setOf, withoutOf}
 use Rattle.sets.proofs.Laws.{member-setOf}
 use Rattle.places.specs.Places.{appendOf, usedOf}
@@ -100,4 +100,4 @@ module _ {v : Setup} {s : State} {g : Gate} (h : Shows v s g) (k : ℕ) (low : k
                 (rw (line-at h k low d, q) (append-pad x maxSize l (fits-used fits)))
                 (fits-snoc x fits short (omega (arith, f .0, h .fine .clients))) in
                 shows-room moved x k false _ w low (eqb-true (setupOf v .cluster x) k
-                (and-true (s .room x) (eqb (setupOf v .cluster x) k) (f .1) .1)) (rw q)
+                (both-true (s .room x) (eqb (setupOf v .cluster x) k) (f .1) .1)) (rw q)

@@ -7,6 +7,7 @@ use gate::Server;
 ghost use mathlib.Core.Path.{_≡_};
 ghost use Prim.Native.Nat.{_<_};
 ghost use lib.ListN.{length};
+ghost use Rattle.rules.specs.Limits.{maxClusters};
 ghost use Rattle.rules.specs.State.{State, isIdle, blocks};
 ghost use Rattle.rules.specs.Rank.{outranks};
 ghost use Rattle.rules.specs.Queues.{refill, queue, pick};
@@ -20,7 +21,7 @@ ghost use Rattle.moves.specs.Parts.{putServer};
 // Refill of a cluster: if its line has room and its waiting room isn't empty, the highest in rank moves to the line's
 // end.
 pub fn refilled(g: Gate, k: Cluster) -> Gate
-    requires { ⌜ (k .0 < 8) × Fine (g .setup) ⌝ }
+    requires { ⌜ (k .0 < maxClusters) × Fine (g .setup) ⌝ }
     ensures { λ r.
         ⌜ (r .setup ≡ g .setup)
         × ((v : given.Setup) (s : State) → Shows v s g
@@ -63,7 +64,7 @@ fn is_blocked(g: Gate, k: Cluster) -> bool
         ⌜ ((v : given.Setup) (s : State) → Shows v s g → r ≡ blocks (setupOf v) (s .server) (k .0)) ⌝ }
 {
     let server = g.server;
-    rows::is_blocked(g.setup, server, k.0)
+    rows::is_blocked(g.setup, server, k)
 }
 
 // Another one in service, with the units served.
@@ -119,10 +120,10 @@ pub fn picked(g: Gate) -> Gate
 
 // The front of a cluster joins the end of the global queue, unless the cluster is blocked.
 pub fn queued(g: Gate, k: Cluster) -> Gate
-    requires { ⌜ k .0 < 8 ⌝ }
+    requires { ⌜ k .0 < maxClusters ⌝ }
     ensures { λ r.
         ⌜ (r .setup ≡ g .setup)
-        × ((v : given.Setup) (s : State) → Shows v s g → length (s .global) < 8
+        × ((v : given.Setup) (s : State) → Shows v s g → length (s .global) < maxClusters
         → Shows v (queue (setupOf v) (k .0) s) r) ⌝ }
 {
     if is_blocked(g, k) {

@@ -56,7 +56,7 @@ Reads s z = fieldOf s ≡ z
 -- -
 -- -40
 -- --1
--- 1
+-- 1 and a space
 pub numbers :
     Reads (48 ∷ 48 ∷ 55 ∷ []) (pos 7)
     × Reads (45 ∷ 48 ∷ []) (pos 0)

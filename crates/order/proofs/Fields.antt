@@ -1,6 +1,6 @@
 -- The fields of a line one by one.
 -- Assumes nothing.
-use Prim.Native.Nat.{ℕ, suc, _+_, _-_, _≤_, _<_}
+use Prim.Native.Nat.{ℕ, suc, _+_, _≤_, _<_}
 use native.Mathlib.Numerals.{add-one}
 use native.Mathlib.Omega.{arith}
 use mathlib.Core.Path.{_≡_, refl, sym, ap, _∙_}
@@ -11,31 +11,32 @@ use lib.Seq.{drop-cons, drop-drop, getD-drop}
 use borrow.Author.Tests.{eq-eqb, ne-eqb}
 use Rattle.order.specs.Numbers.{outOfRange, fieldOf}
 use Rattle.order.specs.Orders.{comma, withFirst, fields, values}
-use Rattle.order.specs.Steps.{upTo}
+use Rattle.order.specs.Steps.{fieldLength}
 use Rattle.rules.proofs.Tests.{by-test}
 
 -- THE FIRST FIELD
 
 -- with no comma, it is the only one
-last-field : (t : List ℕ) → upTo t ≡ length t → fields t ≡ t ∷ []
+last-field : (t : List ℕ) → fieldLength t ≡ length t → fields t ≡ t ∷ []
 last-field [] e = refl
 last-field (b ∷ t) e =
     by-test (eqb b comma) (λ y. absurd (omega (arith, rw y at e)))
-    (λ n. let k : suc (upTo t) ≡ suc (length t) = rw n at e in rw (n, last-field t (omega arith)))
+    (λ n. let k : suc (fieldLength t) ≡ suc (length t) = rw n at e in rw (n, last-field t (omega arith)))
 
 -- with one, others follow
-field-then : (t : List ℕ) → upTo t < length t → fields t ≡ take (upTo t) t ∷ fields (drop (suc (upTo t)) t)
+field-then : (t : List ℕ) → fieldLength t < length t
+    → fields t ≡ take (fieldLength t) t ∷ fields (drop (suc (fieldLength t)) t)
 field-then [] h = absurd (omega arith)
 field-then (b ∷ t) h =
     by-test (eqb b comma) (λ y. rw y)
-    (λ n. let k : suc (upTo t) < suc (length t) = rw n at h in rw (n, field-then t (omega arith)))
+    (λ n. let k : suc (fieldLength t) < suc (length t) = rw n at h in rw (n, field-then t (omega arith)))
 
 -- either way it stands first
 first-withFirst : (b : ℕ) (fs : List (List ℕ)) → getD (withFirst b fs) 0 [] ≡ b ∷ getD fs 0 []
 first-withFirst b [] = refl
 first-withFirst b (f ∷ fs) = refl
 
-first-field : (t : List ℕ) → getD (fields t) 0 [] ≡ take (upTo t) t
+first-field : (t : List ℕ) → getD (fields t) 0 [] ≡ take (fieldLength t) t
 first-field [] = refl
 first-field (b ∷ t) =
     by-test (eqb b comma) (λ y. rw y)
@@ -44,10 +45,10 @@ first-field (b ∷ t) =
 -- FROM BYTE i ON
 
 module _ (s : List ℕ) (i : ℕ) (there : i < length s) where
-  pub at-comma : getD s i 0 ≡ comma → upTo (drop i s) ≡ 0
+  pub at-comma : getD s i 0 ≡ comma → fieldLength (drop i s) ≡ 0
   at-comma e = rw (drop-cons s i 0, eq-eqb (getD s i 0) comma e)
 
-  pub no-comma : (getD s i 0 ≡ comma → ⊥) → upTo (drop i s) ≡ suc (upTo (drop (i + 1) s))
+  pub no-comma : (getD s i 0 ≡ comma → ⊥) → fieldLength (drop i s) ≡ suc (fieldLength (drop (i + 1) s))
   no-comma e = rw (add-one, drop-cons s i 0, ne-eqb (getD s i 0) comma e)
 
 -- HOW MANY
@@ -89,20 +90,20 @@ module _ (s : List ℕ) (k a : ℕ) (here : At s k a) where
   abbrev rest : List ℕ
   rest = drop a s
 
-  pub at-next : a + upTo rest < length s → At s (k + 1) (a + upTo rest + 1)
+  pub at-next : a + fieldLength rest < length s → At s (k + 1) (a + fieldLength rest + 1)
   at-next h = record {
     within = omega arith;
     left =
-        let n : a + suc (upTo rest) ≡ a + upTo rest + 1 = omega arith in
+        let n : a + suc (fieldLength rest) ≡ a + fieldLength rest + 1 = omega arith in
         sym (
         sym (drop-drop 1 k (fields s))
         ∙ ap (drop 1) (sym (here .left) ∙ field-then rest (omega (arith, length-drop a s)))
-        ∙ ap fields (drop-drop (suc (upTo rest)) a s ∙ ap (λ (i : ℕ). drop i s) n)
+        ∙ ap fields (drop-drop (suc (fieldLength rest)) a s ∙ ap (λ (i : ℕ). drop i s) n)
         );
   }
 
   -- the field that is here
-  pub value-here : getD (values s) k outOfRange ≡ fieldOf (take (upTo rest) rest)
+  pub value-here : getD (values s) k outOfRange ≡ fieldOf (take (fieldLength rest) rest)
   value-here =
       let n : k + 0 ≡ k = omega arith in
       value-at s k
@@ -114,7 +115,7 @@ module _ (s : List ℕ) (k a : ℕ) (here : At s k a) where
       )
 
   -- none after the last
-  pub value-past : (j : ℕ) → k < j → a + upTo rest ≡ length s → getD (values s) j outOfRange ≡ outOfRange
+  pub value-past : (j : ℕ) → k < j → a + fieldLength rest ≡ length s → getD (values s) j outOfRange ≡ outOfRange
   unfolding fieldOf
   value-past j h e =
       let one : length (drop k (fields s)) ≡ 1

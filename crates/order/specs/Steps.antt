@@ -28,9 +28,9 @@ negative zero = pos 0
 negative (suc k) = cond (ltb k (2 ^ 63)) (negsuc k) outOfRange
 
 -- how long the first field is
-abbrev pub upTo : List ℕ → ℕ
-upTo [] = 0
-upTo (b ∷ s) = cond (eqb b comma) 0 (suc (upTo s))
+abbrev pub fieldLength : List ℕ → ℕ
+fieldLength [] = 0
+fieldLength (b ∷ s) = cond (eqb b comma) 0 (suc (fieldLength s))
 
 -- the places of a column hold every other field from one on, and -1 past the last field
 abbrev pub Column : List ℤ → ℕ → List ℤ → Type 0

@@ -9,7 +9,7 @@ ghost use lib.ListN.{length, getD, drop};
 ghost use Rattle.quote.specs.Told.{told};
 ghost use Rattle.order.specs.Numbers.{outOfRange};
 ghost use Rattle.order.specs.Orders.{asked, fields, values};
-ghost use Rattle.order.specs.Steps.{upTo, inColumn, Column};
+ghost use Rattle.order.specs.Steps.{fieldLength, inColumn, Column};
 
 const COMMA: u8 = 44;
 
@@ -101,7 +101,7 @@ fn field(s: &[u8], j: usize) -> i64
 // Where the field ends that starts at a.
 fn end(s: &[u8], a: usize) -> usize
     requires { ⌜ a ≤ length (now s) ⌝ }
-    ensures { λ r. ⌜ (r ≡ a + upTo (drop a (now (s .entry)))) × (a ≤ r) × (r ≤ length (now (s .entry))) ⌝ }
+    ensures { λ r. ⌜ (r ≡ a + fieldLength (drop a (now (s .entry)))) × (a ≤ r) × (r ≤ length (now (s .entry))) ⌝ }
 {
     let mut i = a;
     while i < s.len() {

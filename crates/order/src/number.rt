@@ -8,8 +8,10 @@ const MINUS: u8 = 45;
 const ZERO: u8 = 48;
 
 const NINE: u8 = 57;
-// Past every size of a 64-bit number: 2^63 + 1.
-const TOO_LARGE: u64 = 9223372036854775809;
+// 2^63: the size of the least 64-bit number, and one more than that of the greatest.
+const MOST: u64 = 9223372036854775808;
+// Past every size of a 64-bit number.
+const TOO_LARGE: u64 = MOST + 1;
 // Above this, one more digit is past them too.
 const MOST_BEFORE: u64 = 922337203685477580;
 
@@ -47,7 +49,7 @@ fn size(f: &[u8]) -> u64
         if MOST_BEFORE < n {
             return TOO_LARGE;
         }
-        n = n * 10 + (wide(b) - 48);
+        n = n * 10 + wide(b - ZERO);
         i += 1;
     }
     n
@@ -62,11 +64,7 @@ fn wide(b: u8) -> u64
 fn positive(n: u64) -> i64
     ensures { λ r. ⌜ r ≡ Steps·positive n ⌝ }
 {
-    if n < 9223372036854775808 {
-        n as i64
-    } else {
-        -1
-    }
+    if n < MOST { n as i64 } else { -1 }
 }
 
 fn negative(n: u64) -> i64
@@ -76,9 +74,5 @@ fn negative(n: u64) -> i64
         return 0;
     }
     let k = n - 1;
-    if k < 9223372036854775808 {
-        -1 - (k as i64)
-    } else {
-        -1
-    }
+    if k < MOST { -1 - (k as i64) } else { -1 }
 }

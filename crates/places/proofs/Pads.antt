@@ -2,7 +2,7 @@
 -- For any number n of places. Assumes nothing.
 use Prim.Native.Nat.{ℕ, zero, suc, _≤_, _<_}
 use mathlib.Core.Path.{_≡_, refl, sym, ap, ap₂}
-use mathlib.Core.Bool.{Bool, true, false, _||_, _&&_}
+use mathlib.Core.Bool.{Bool, true, false, _||_}
 use mathlib.Core.List.{List, [], _∷_}
 use mathlib.Core.Logic.{by-cases}
 use native.Mathlib.Decide.{ℕ-discrete}
@@ -13,6 +13,7 @@ use lib.Dec.{eqb}
 use lib.ListN.{length, getD}
 use Rattle.rules.specs.Limits.{unusedPlace}
 use Rattle.rules.specs.Lists.{has, heads}
+use Rattle.rules.proofs.Tests.{not-so, both-false, both-true}
 use Rattle.places.specs.Places.{pad, unpad, blank, usedFirst}
 
 -- HOW MANY
@@ -27,21 +28,13 @@ length-pad (suc n) (x ∷ l) = ap suc (length-pad n l)
 
 -- numbers below 255 leave no place of a list unused
 pub no-unused : (l : List ℕ) → ((x : ℕ) → has x l ≡ true → x < unusedPlace) → has unusedPlace l ≡ false
-no-unused l h = go (has unusedPlace l) (h unusedPlace)
-  where
-    go : (b : Bool) → (b ≡ true → unusedPlace < unusedPlace) → b ≡ false
-    go true f = let z : unusedPlace < unusedPlace = f refl in absurd (omega arith)
-    go false f = refl
+no-unused l h = not-so (has unusedPlace l) (λ e. omega (arith, h unusedPlace e))
 
 -- no unused place in a list: its first is used, and the others are
 pub used-cons :
     (x : ℕ) (l : List ℕ) → has unusedPlace (x ∷ l) ≡ false
     → (eqb x unusedPlace ≡ false) × (has unusedPlace l ≡ false)
-used-cons x l u = go (eqb x unusedPlace) (has unusedPlace l) u
-  where
-    go : (a b : Bool) → (a || b) ≡ false → (a ≡ false) × (b ≡ false)
-    go true b e = let z : true ≡ false = e in (e, cc)
-    go false b e = (refl, e)
+used-cons x l u = both-false (eqb x unusedPlace) (has unusedPlace l) u
 
 -- the places of a list hold that list
 pub unpad-pad : (n : ℕ) (l : List ℕ) → has unusedPlace l ≡ false → length l ≤ n → unpad (pad n l) ≡ l
@@ -62,12 +55,9 @@ blank-pad (suc n) = blank-pad n
 pad-blank : (q : List ℕ) → blank q ≡ true → pad (length q) [] ≡ q
 unfolding pad blank
 pad-blank [] b = refl
-pad-blank (x ∷ q) b = let v = go (eqb x unusedPlace) (blank q) b in
+pad-blank (x ∷ q) b =
+    let v = both-true (eqb x unusedPlace) (blank q) b in
     ap₂ (λ x l. x ∷ l) (sym (eqb-true x unusedPlace (v .0))) (pad-blank q (v .1))
-  where
-    go : (a b : Bool) → (a && b) ≡ true → (a ≡ true) × (b ≡ true)
-    go true b e = (refl, e)
-    go false b e = let z : false ≡ true = e in (e, cc)
 
 -- in the places of a list used places come first
 pub usedFirst-pad : (n : ℕ) (l : List ℕ) → has unusedPlace l ≡ false → usedFirst (pad n l) ≡ true
@@ -85,15 +75,7 @@ pad-unpad (x ∷ q) u =
     (λ e. rw e (ap (λ l. unusedPlace ∷ l) (pad-blank q (rw (eq-eqb x unusedPlace e) at u))))
     (λ d. rw (ne-eqb x unusedPlace d) (ap (λ l. x ∷ l) (pad-unpad q (rw (ne-eqb x unusedPlace d) at u))))
 
--- that list has no unused place, and is no longer than there are places
-pub unpad-used : (q : List ℕ) → has unusedPlace (unpad q) ≡ false
-unfolding unpad
-unpad-used [] = refl
-unpad-used (x ∷ q) =
-    by-cases (ℕ-discrete x unusedPlace)
-    (λ e. rw (eq-eqb x unusedPlace e))
-    (λ d. rw (ne-eqb x unusedPlace d) (rw (ne-eqb x unusedPlace d) (unpad-used q)))
-
+-- that list is no longer than there are places
 pub unpad-fits : (q : List ℕ) → length (unpad q) ≤ length q
 unfolding unpad
 unpad-fits [] = omega arith

@@ -1,8 +1,8 @@
 -- The laws of what the functions do: on any places, and on the places of a list, in the list's terms.
 -- For any number n of places. Assumes nothing.
 use Prim.Native.Nat.{ℕ, zero, suc, _≤_, _<_}
-use mathlib.Core.Path.{_≡_, refl, sym, ap, _∙_}
-use mathlib.Core.Bool.{true, false}
+use mathlib.Core.Path.{_≡_, refl, ap, _∙_}
+use mathlib.Core.Bool.{false}
 use mathlib.Core.List.{List, [], _∷_, _++_}
 use mathlib.Core.Logic.{by-cases}
 use native.Mathlib.Decide.{ℕ-discrete}
@@ -15,7 +15,7 @@ use Rattle.rules.specs.Limits.{unusedPlace}
 use Rattle.rules.specs.Lists.{has, remove}
 use Rattle.places.specs.Places.{pad, placeOf, usedOf, appendOf, closeUpOf, takeOutOf}
 use Rattle.places.proofs.Turns.{close-none}
-use Rattle.places.proofs.Pads.{length-pad, used-cons, has-pad}
+use Rattle.places.proofs.Pads.{used-cons, has-pad}
 
 -- FIND
 
@@ -39,22 +39,6 @@ module _ (x : ℕ) where
 
   pub place-none : (q : List ℕ) → has x q ≡ false → placeOf x q ≡ length q
   place-none q u = omega (arith, place-fits q, ltb-false (placeOf x q) (length q) (place-has q ∙ u))
-
-  -- in the places of a list: x's place in the list
-  pub place-pad : (n : ℕ) (l : List ℕ) → has x l ≡ true → length l ≤ n → placeOf x (pad n l) ≡ placeOf x l
-  unfolding pad placeOf
-  place-pad n [] u h = let z : false ≡ true = u in cc
-  place-pad zero (y ∷ l) u h = absurd (not-suc-le-zero h)
-  place-pad (suc n) (y ∷ l) u h =
-      by-cases (ℕ-discrete y x)
-      (λ e. rw (eq-eqb y x e))
-      (λ d. rw (ne-eqb y x d) (ap suc (place-pad n l (rw (ne-eqb y x d) at u) (le-of-suc-le-suc h))))
-
--- a place is found in the places of a list exactly where x is in the list; 255 stands for nobody
-pub find-pad :
-    (x n : ℕ) (l : List ℕ) → (x ≡ unusedPlace → ⊥) → length l ≤ n → ltb (placeOf x (pad n l)) n ≡ has x l
-find-pad x n l d h =
-    ap (λ (m : ℕ). ltb (placeOf x (pad n l)) m) (sym (length-pad n l)) ∙ place-has x (pad n l) ∙ has-pad x d n l h
 
 -- the used places of a list are as many as the list is long
 pub used-pad : (n : ℕ) (l : List ℕ) → has unusedPlace l ≡ false → length l ≤ n → usedOf (pad n l) ≡ length l

@@ -1,7 +1,7 @@
 -- Who is in a line, a room or a queue, as a gate shows it.
 -- Assumes nothing.
 use Prim.Native.Nat.{_<_, ℕ}
-use mathlib.Core.Bool.{Bool, false, true}
+use mathlib.Core.Bool.{Bool, false, true, and-true}
 use mathlib.Core.Path.{_∙_, _≡_, ap, sym}
 use native.Mathlib.Omega.{arith}
 use lib.Dec.{eqb}
@@ -21,7 +21,6 @@ use Rattle.gate.specs.declared.Gate.{Gate}
 use Rattle.gate.specs.declared.Line.{Line}
 use Rattle.gate.specs.declared.Setup.{Setup}
 use Rattle.rows.specs.Homes.{Home}
-use Rattle.rows.proofs.Bools.{and-last}
 use Rattle.moves.proofs.Parts.{line-at, room-at}
 
 -- 255 is no client
@@ -54,7 +53,7 @@ module _ {v : Setup} {s : State} {g : Gate} (h : Shows v s g) where
     room-has d e =
         e ∙ ap (λ w. member w c) (room-at h k (home .low) d)
         ∙ member-setOf maxClients (inRoom (setupOf v) s k) c (home .known)
-        ∙ rw (eq-eqb (setupOf v .cluster c) k (sym home-is)) (and-last (s .room c))
+        ∙ rw (eq-eqb (setupOf v .cluster c) k (sym home-is)) (and-true (s .room c))
 
     pub heads-at : (d : Line) {x : ℕ} → x ≡ getD (getD (g .lines) k d .places) 0 0
         → eqb x c ≡ heads c (s .lines (setupOf v .cluster c))

@@ -6,8 +6,9 @@ use gate::Line;
 use gate::Server;
 ghost use mathlib.Core.Path.{_≡_};
 ghost use Prim.Native.Nat.{_<_};
+ghost use Rattle.rules.specs.Limits.{maxClients};
 ghost use Rattle.rules.specs.Lists.{has};
-ghost use Rattle.rules.specs.State.{State, serves, isFront, isSpent};
+ghost use Rattle.rules.specs.State.{State, serves, isSpent};
 ghost use Rattle.rules.specs.Queues.{waits};
 ghost use Rattle.rules.specs.Step.{present};
 ghost use Rattle.gate.specs.declared.Setup as given;
@@ -30,7 +31,7 @@ fn line_holds(l: Line, x: u8) -> bool
 
 // Whether c is in its line or its waiting room.
 pub fn waits(g: Gate, c: Client) -> bool
-    requires { ⌜ (c .0 < 64) × Fine (g .setup) ⌝ }
+    requires { ⌜ (c .0 < maxClients) × Fine (g .setup) ⌝ }
     ensures { λ r.
         ⌜ ((v : given.Setup) (s : State) → Shows v s g → r ≡ waits (setupOf v) s (c .0)) ⌝ }
 {
@@ -56,18 +57,6 @@ fn serves(s: Server, c: Client) -> bool
     }
 }
 
-// Whether c is in service as the front of its line.
-pub fn is_front(s: Server, c: Client) -> bool
-    ensures { λ r. ⌜ r ≡ isFront (serverOf s) (c .0) ⌝ }
-{
-    match s {
-        Server::Idle => false,
-        Server::Front(d) => rows::index(d) == rows::index(c),
-        Server::Best(_) => false,
-        Server::Spent(_) => false,
-    }
-}
-
 // Whether c is in service as a spent client.
 pub fn is_spent(s: Server, c: Client) -> bool
     ensures { λ r. ⌜ r ≡ isSpent (serverOf s) (c .0) ⌝ }
@@ -82,7 +71,7 @@ pub fn is_spent(s: Server, c: Client) -> bool
 
 // Whether c waits already, spent included.
 pub fn present(g: Gate, c: Client) -> bool
-    requires { ⌜ (c .0 < 64) × Fine (g .setup) ⌝ }
+    requires { ⌜ (c .0 < maxClients) × Fine (g .setup) ⌝ }
     ensures { λ r.
         ⌜ ((v : given.Setup) (s : State) → Shows v s g → r ≡ present (setupOf v) s (c .0)) ⌝ }
 {

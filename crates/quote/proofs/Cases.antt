@@ -1,16 +1,13 @@
--- Quotes at the edges, computed; and no two answers are told alike.
+-- Quotes at the edges, computed.
 -- Assumes nothing.
 use Prim.Native.Nat.{ℕ}
-use mathlib.Core.Path.{_≡_, refl, sym, ap, _∙_}
-use mathlib.Core.Bool.{cond}
+use mathlib.Core.Path.{_≡_, refl}
 use mathlib.Core.List.{[], _∷_}
-use lib.Dec.{eqb}
 use lib.IntN.{ℤ, pos, negsuc}
 use lib.ListN.{replicate}
-use Rattle.rules.specs.Refusals.{accepted, fieldOut, overPeriod}
-use Rattle.rules.specs.Quote.{Quote, quote}
+use Rattle.rules.specs.Quote.{quote}
 use Rattle.quote.specs.declared.Answer.{Answer}
-use Rattle.quote.specs.declared.Answer.the-variants.{Accepted, FieldOut, OverPeriod, BadLines}
+use Rattle.quote.specs.declared.Answer.the-variants.{Accepted, FieldOut, BadLines}
 use Rattle.quote.specs.Told.{orderOf, told}
 
 -- the answer to an order with one server line
@@ -37,20 +34,3 @@ Columns n l a = quote (orderOf (pos 0) (pos 1) (pos 1) (pos 1) (replicate n (pos
 pub columns : Columns 17 17 BadLines × Columns 2 1 BadLines × Columns 1 2 BadLines × Columns 16 16 (FieldOut 0)
 unfolding quote
 columns = (refl, refl, refl, refl)
-
--- the answer that is told so
-abbrev toldBy : Quote → Answer
-toldBy q =
-    cond (eqb (q .answer) accepted) (Accepted (q .budget))
-    (cond (eqb (q .answer) fieldOut) (FieldOut (q .place))
-    (cond (eqb (q .answer) overPeriod) OverPeriod BadLines))
-
-told-by : (a : Answer) → toldBy (told a) ≡ a
-told-by (Accepted b) = refl
-told-by (FieldOut at) = refl
-told-by OverPeriod = refl
-told-by BadLines = refl
-
--- no second answer fits
-pub told-once : (a b : Answer) → told a ≡ told b → a ≡ b
-told-once a b e = sym (told-by a) ∙ ap toldBy e ∙ told-by b

@@ -4,3 +4,4 @@ pub mod Lines
 pub mod Most
 pub mod Answers
 pub mod Cases
+pub mod Only

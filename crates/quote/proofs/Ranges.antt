@@ -12,7 +12,7 @@ use mir.Val.{toZ, ofZ}
 use mir.Facts.{toZ-ofZ}
 use borrow.Author.Tests.{ltb-true, le-leb, lt-leb, leb-true, not-true, not-false}
 use Rattle.rules.specs.Quote.{inRange}
-use Rattle.rules.proofs.Tests.{and-true}
+use Rattle.rules.proofs.Tests.{both-true}
 
 pub not-negative : (z : ℤ) → ltZ z (pos 0) ≡ false → T (nonNeg z)
 not-negative (pos n) e = tt
@@ -39,7 +39,7 @@ pub record Within (low high : ℕ) (z : ℤ) : Type 0 where
 
 pub within : (low high : ℕ) (z : ℤ) → inRange low high z ≡ true → Within low high z
 within low high (pos n) e =
-    let h = and-true (leb low n) (leb n high) e in
+    let h = both-true (leb low n) (leb n high) e in
     record { sign = tt; least = leb-true low n (h .0); most = leb-true n high (h .1) }
 within low high (negsuc n) e = absurd (subst T (sym e) tt)
 

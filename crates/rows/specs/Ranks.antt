@@ -4,15 +4,10 @@ use Prim.Native.Nat.{ℕ}
 use mathlib.Core.Bool.{Bool, _&&_, _||_, cond}
 use mathlib.Core.List.{List}
 use mathlib.Core.Option.{Option, some, none}
-use lib.Dec.{eqb, ltb}
+use lib.Dec.{eqb}
 use lib.ListN.{getD}
 use Rattle.rules.specs.Limits.{maxClients}
-use Rattle.rules.specs.Rank.{Rank}
-
--- Client a, of priority p, outranks client b, of priority q, if its priority number is smaller, or equal and its
--- client number is smaller.
-abbrev pub before : ℕ → ℕ → ℕ → ℕ → Bool
-before p a q b = ltb p q || (eqb p q && ltb a b)
+use Rattle.rules.specs.Rank.{Rank, before}
 
 -- the rank by a list of priorities
 unfoldable pub rankBy : List ℕ → Rank

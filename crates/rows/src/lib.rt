@@ -9,29 +9,39 @@ use gate::Setup;
 ghost use mathlib.Core.Path.{_≡_};
 ghost use Prim.Native.Nat.{_≤_, _<_};
 ghost use lib.ListN.{length, getD};
+ghost use Rattle.rules.specs.Limits.{maxClusters, maxClients};
 ghost use Rattle.rules.specs.Lists.{highest};
+ghost use Rattle.rules.specs.Rank.{before};
 ghost use Rattle.rules.specs.Setup.{realTime};
-ghost use Rattle.rules.specs.State.{blocks};
+ghost use Rattle.rules.specs.State.{blocks, isFront};
 ghost use Rattle.sets.specs.Sets.{member};
 ghost use Rattle.places.specs.Places.{usedOf, appendOf};
 ghost use Rattle.gate.specs.Shown.{setupOf, serverOf, client};
 ghost use Rattle.gate.specs.Shows.{Fine};
 ghost use Rattle.rows.specs.Homes.{Home};
-ghost use Rattle.rows.specs.Ranks.{before, rankBy, orNobody, betterOf};
+ghost use Rattle.rows.specs.Ranks.{rankBy, orNobody, betterOf};
 
-// A client's number as an index. It becomes one here and nowhere else.
+// A client's number as an index.
 pub fn index(c: Client) -> usize
     ensures { λ r. ⌜ r ≡ c .0 ⌝ }
 {
     c.0 as usize
 }
 
+// An index of a client as a place holds it.
+pub fn narrow(c: usize) -> u8
+    requires { ⌜ c < maxClients ⌝ }
+    ensures { λ r. ⌜ r ≡ c ⌝ }
+{
+    c as u8
+}
+
 // A client's number as a place holds it.
 pub fn byte(c: Client) -> u8
-    requires { ⌜ c .0 < 64 ⌝ }
+    requires { ⌜ c .0 < maxClients ⌝ }
     ensures { λ r. ⌜ r ≡ c .0 ⌝ }
 {
-    c.0 as u8
+    narrow(index(c))
 }
 
 // The client that a place holds.
@@ -44,18 +54,18 @@ pub fn client_in(x: u8) -> Client
 // THE SETUP
 
 // The cluster that stands in row c; 0 where there is no such row.
-pub fn cluster_of(s: Setup, c: usize) -> usize
-    ensures { λ r. ⌜ r ≡ setupOf s .cluster c ⌝ }
+pub fn cluster_of(s: Setup, c: usize) -> Cluster
+    ensures { λ r. ⌜ r .0 ≡ setupOf s .cluster c ⌝ }
 {
     if c >= Gate::MAX_CLIENTS {
-        return 0;
+        return Cluster(0);
     }
-    gate::wide(s.homes[c])
+    Cluster(gate::wide(s.homes[c]))
 }
 
 // A client's cluster.
 pub fn home(s: Setup, c: Client) -> Cluster
-    requires { ⌜ (c .0 < 64) × Fine s ⌝ }
+    requires { ⌜ (c .0 < maxClients) × Fine s ⌝ }
     ensures { λ r. ⌜ Home s (c .0) (r .0) ⌝ }
 {
     let homes = s.homes;
@@ -64,7 +74,7 @@ pub fn home(s: Setup, c: Client) -> Cluster
 }
 
 pub fn is_real_time(s: Setup, c: Client) -> bool
-    requires { ⌜ c .0 < 64 ⌝ }
+    requires { ⌜ c .0 < maxClients ⌝ }
     ensures { λ r. ⌜ r ≡ realTime (setupOf s) (c .0) ⌝ }
 {
     let kinds = s.kinds;
@@ -74,7 +84,7 @@ pub fn is_real_time(s: Setup, c: Client) -> bool
 
 // A cluster's size, m.
 pub fn size(s: Setup, k: Cluster) -> usize
-    requires { ⌜ k .0 < 8 ⌝ }
+    requires { ⌜ k .0 < maxClusters ⌝ }
     ensures { λ r. ⌜ r ≡ setupOf s .size (k .0) ⌝ }
 {
     let sizes = s.sizes;
@@ -82,15 +92,29 @@ pub fn size(s: Setup, k: Cluster) -> usize
     gate::wide(sizes[i])
 }
 
+// THE SERVER
+
 // A cluster is blocked exactly while a spent client of that cluster is in service.
-pub fn is_blocked(s: Setup, server: Server, k: usize) -> bool
-    ensures { λ r. ⌜ r ≡ blocks (setupOf s) (serverOf server) k ⌝ }
+pub fn is_blocked(s: Setup, server: Server, k: Cluster) -> bool
+    ensures { λ r. ⌜ r ≡ blocks (setupOf s) (serverOf server) (k .0) ⌝ }
 {
     match server {
         Server::Idle => false,
         Server::Front(_) => false,
         Server::Best(_) => false,
-        Server::Spent(c) => cluster_of(s, index(c)) == k,
+        Server::Spent(c) => cluster_of(s, index(c)).0 == k.0,
+    }
+}
+
+// Whether c is in service as the front of its line.
+pub fn is_front(server: Server, c: usize) -> bool
+    ensures { λ r. ⌜ r ≡ isFront (serverOf server) c ⌝ }
+{
+    match server {
+        Server::Idle => false,
+        Server::Front(d) => index(d) == c,
+        Server::Best(_) => false,
+        Server::Spent(_) => false,
     }
 }
 
@@ -138,8 +162,8 @@ pub fn outranks(p: u16, a: usize, q: u16, b: usize) -> bool
 
 // The higher in rank of c, if it is in the room, and of b, the highest found before; 64 is nobody.
 fn better(priorities: &[u16], room: u64, c: usize, b: usize) -> usize
-    requires { ⌜ (length (now priorities) ≡ 64) × (c < 64) × (b ≤ 64) ⌝ }
-    ensures { λ r. ⌜ (r ≡ betterOf (rankBy (now (priorities .entry))) (member room) c b) × (r ≤ 64) ⌝ }
+    requires { ⌜ (length (now priorities) ≡ maxClients) × (c < maxClients) × (b ≤ maxClients) ⌝ }
+    ensures { λ r. ⌜ (r ≡ betterOf (rankBy (now (priorities .entry))) (member room) c b) × (r ≤ maxClients) ⌝ }
 {
     if !sets::member(room, c) {
         return b;
@@ -155,8 +179,8 @@ fn better(priorities: &[u16], room: u64, c: usize, b: usize) -> usize
 
 // The highest in rank of those below n in the room, or 64.
 fn highest_of(priorities: &[u16], room: u64, n: usize) -> usize
-    requires { ⌜ (length (now priorities) ≡ 64) × (n ≤ 64) ⌝ }
-    ensures { λ r. ⌜ (r ≡ orNobody (highest (rankBy (now (priorities .entry))) (member room) n)) × (r ≤ 64) ⌝ }
+    requires { ⌜ (length (now priorities) ≡ maxClients) × (n ≤ maxClients) ⌝ }
+    ensures { λ r. ⌜ (r ≡ orNobody (highest (rankBy (now (priorities .entry))) (member room) n)) × (r ≤ maxClients) ⌝ }
 {
     let mut b = Gate::MAX_CLIENTS;
     let mut c: usize = 0;
@@ -170,16 +194,8 @@ fn highest_of(priorities: &[u16], room: u64, n: usize) -> usize
 // The highest in rank of the clients in the room, or 64.
 pub fn highest_in(s: Setup, room: u64) -> usize
     requires { ⌜ Fine s ⌝ }
-    ensures { λ r. ⌜ (r ≡ orNobody (highest (rankBy (s .priorities)) (member room) (s .clients))) × (r ≤ 64) ⌝ }
+    ensures { λ r. ⌜ (r ≡ orNobody (highest (rankBy (s .priorities)) (member room) (s .clients))) × (r ≤ maxClients) ⌝ }
 {
     let priorities = s.priorities;
     highest_of(&priorities, room, gate::wide(s.clients))
-}
-
-// A number below 64 as a place holds it.
-pub fn narrow(c: usize) -> u8
-    requires { ⌜ c < 64 ⌝ }
-    ensures { λ r. ⌜ r ≡ c ⌝ }
-{
-    c as u8
 }

@@ -16,11 +16,11 @@ use Rattle.rules.specs.Rank.{Rank}
 use Rattle.rules.specs.Queues.{join}
 use Rattle.rules.specs.Events.{abort, spend}
 use Rattle.rules.specs.History.{strikes}
-use Rattle.rules.proofs.Tests.{by-test, clash, not-so, or-false}
+use Rattle.rules.proofs.Tests.{by-test, clash, not-so, both-false}
 use Rattle.rules.proofs.Lists.{distinct-right, heads-length}
 use Rattle.rules.proofs.Lists.{remove-none}
 use Rattle.rules.proofs.Images.{has-map, at}
-use Rattle.rules.proofs.InOrder.{every, but, own, turns, InOrder, Ordered, busy}
+use Rattle.rules.proofs.InOrder.{allClusters, but, own, turns, InOrder, Ordered, busy}
 use Rattle.rules.proofs.Ahead.{turnOf, ahead-le, extra-le}
 use Rattle.rules.proofs.Leaving.{Left, put}
 use Rattle.rules.proofs.Turns.{ordered-but, ordered-join, ordered-blocked, ordered-unqueue}
@@ -38,7 +38,7 @@ module _ (u : Setup) (rank : Rank) (c : ℕ) (s : State) (i : InOrder u s) where
       first-now = i .ordered .served-front c e
 
       -- the spent client keeps the turn of its cluster
-      held : Ordered u every (s .lines) (spent c) (s .global)
+      held : Ordered u allClusters (s .lines) (spent c) (s .global)
       held =
           record {
             global-front = i .ordered .global-front;
@@ -48,7 +48,7 @@ module _ (u : Setup) (rank : Rank) (c : ℕ) (s : State) (i : InOrder u s) where
             turn-of = λ k q z. rw e at (i .ordered .turn-of k q z);
           }
 
-      spent-ordered : Ordered u every l (spent c) (s .global)
+      spent-ordered : Ordered u allClusters l (spent c) (s .global)
       spent-ordered =
           ordered-blocked u (u .cluster c) l (spent c) (s .global) (eq-eqb (u .cluster c) (u .cluster c) refl)
           (ordered-but u (u .cluster c) (s .lines) l (spent c) (s .global) (g .others) (held .turn-once .0)
@@ -80,7 +80,7 @@ module _ (u : Setup) (rank : Rank) (c : ℕ) (s : State) (i : InOrder u s) where
                 (λ n. rw (eq-eqb (u .cluster c) (u .cluster c) refl) (omega arith)))
                 (λ j n z. rw (e, ne-eqb (u .cluster c) j (λ q. n (sym q))) (omega arith))
                 refl
-                (λ z. or-false (strikes u x s (abort c)) f z .1)
+                (λ z. both-false (strikes u x s (abort c)) f z .1)
                 (λ a b. rw (elsewhere x f a b) (omega arith));
           }
 
@@ -91,7 +91,7 @@ module _ (u : Setup) (rank : Rank) (c : ℕ) (s : State) (i : InOrder u s) where
       not-served = other-served u s i c first n
 
       -- the global queue becomes q, in which nobody else has fallen back
-      front-goes : (q : List ℕ) → Ordered u every l (s .server) q
+      front-goes : (q : List ℕ) → Ordered u allClusters l (s .server) q
           → ((j : ℕ) → (j ≡ u .cluster c → ⊥) → has j (map (u .cluster) (s .global)) ≡ true
           → at j (map (u .cluster) q) ≤ at j (map (u .cluster) (s .global)))
           → (x : ℕ) (f f′ : Bool) → (f′ ≡ false → f ≡ false) → Goes u rank s (put l r (withGlobal q s)) x f f′

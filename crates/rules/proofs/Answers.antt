@@ -16,7 +16,7 @@ use Rattle.rules.specs.Rank.{outranks}
 use Rattle.rules.specs.Queues.{waits}
 use Rattle.rules.specs.Events.{invoke, run, reply, abort, charged}
 use Rattle.rules.specs.Step.{present, overcharges, answer}
-use Rattle.rules.proofs.Tests.{clash, or-true, or-false, passes-by}
+use Rattle.rules.proofs.Tests.{clash, either-true, both-false, passes-by}
 use Rattle.rules.proofs.Counts.{none-below}
 
 pub busy-server : (v : Server) → isIdle v ≡ false → v ≡ idle → ⊥
@@ -34,8 +34,8 @@ module _ (u : Setup) (s : State) where
   invoke-accepted c e =
       let a = passes-by (leb (u .clients) c) noClient _ (omega arith) e in
       let b = passes-by (present u s c) waitsAlready accepted (omega arith) (a .1) in
-      let w = or-false (waits u s c) (has c (s .background) || serves (s .server) c) (b .0) in
-      let v = or-false (has c (s .background)) (serves (s .server) c) (w .1) in
+      let w = both-false (waits u s c) (has c (s .background) || serves (s .server) c) (b .0) in
+      let v = both-false (has c (s .background)) (serves (s .server) c) (w .1) in
       record {
         known = leb-false (u .clients) c (a .0);
         not-waiting = w .0;
@@ -87,6 +87,6 @@ module _ (u : Setup) (s : State) where
       record {
         known = leb-false (u .clients) c (a .0);
         real = not-false (realTime u c) (b .0);
-        waiting = or-true (waits u s c) (isSpent (s .server) c) (not-false there (d .0))
+        waiting = either-true (waits u s c) (isSpent (s .server) c) (not-false there (d .0))
             (λ z. z) (λ z. clash z (o .0));
       }

@@ -14,7 +14,7 @@ use Rattle.rules.specs.Queues.{waits, start, pick, pickIdle}
 use Rattle.rules.specs.Events.{behind}
 use Rattle.rules.proofs.Tests.{clash}
 use Rattle.rules.proofs.Images.{at}
-use Rattle.rules.proofs.InOrder.{Valid, every, Lined, Ordered, InOrder, busy}
+use Rattle.rules.proofs.InOrder.{Valid, allClusters, Lined, Ordered, InOrder, busy}
 use Rattle.rules.proofs.Ahead.{ahead, extra}
 use Rattle.rules.proofs.Passes.{NoLater, keeps, Passes}
 use Rattle.rules.proofs.Goes.{line-waits, line-there, front-idle, best-idle, spent-idle}
@@ -25,7 +25,7 @@ module _ (u : Setup) (c : ℕ) (s : State) where
   pub record Arrived (t : State) : Type 0 where
     pub lined : Lined u (t .lines) (t .room)
     pub full : Full u (t .lines) (t .room)
-    pub ordered : Ordered u every (t .lines) (s .server) (t .global)
+    pub ordered : Ordered u allClusters (t .lines) (s .server) (t .global)
     pub same-server : t .server ≡ s .server
     pub units-fit : t .units ≤ u .cap
     pub no-longer : (j : ℕ) → 0 < length (s .lines j) → ahead u t j ≤ ahead u s j

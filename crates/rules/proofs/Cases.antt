@@ -2,22 +2,25 @@
 -- Assumes nothing.
 use Prim.Native.Nat.{ℕ}
 use mathlib.Core.Path.{_≡_, refl}
-use mathlib.Core.Bool.{true}
+use mathlib.Core.Bool.{cond, false, true}
 use mathlib.Core.List.{List, [], _∷_, map, reverse}
 use mathlib.Core.Option.{some, none}
 use native.Mathlib.Omega.{arith}
+use lib.Dec.{eqb}
 use lib.IntN.{ℤ, pos, negℤ}
+use Rattle.rules.specs.Refusals.{accepted, unsound}
 use Rattle.rules.specs.Setup.{Setup, setupAnswer, service, Accepted}
+use Rattle.rules.specs.State.{State, front}
 use Rattle.rules.specs.Rank.{outranks}
 use Rattle.rules.specs.Queues.{refill, queue, pick}
-use Rattle.rules.specs.Events.{invoked, ran, replied, aborted}
+use Rattle.rules.specs.Events.{run, invoked, ran, replied, aborted}
 use Rattle.rules.specs.Step.{answer, next, step}
 use Rattle.rules.specs.Records.{Record, eventOf}
 use Rattle.rules.specs.Replay.{replayFrom, entriesFrom}
 use Rattle.rules.specs.History.{owed, struck}
 use Rattle.rules.specs.Demands.{worst, worstUnstruck}
 use Rattle.rules.specs.Quote.{Order, Quote, quote}
-use Rattle.rules.proofs.Table.{rt, be, setupOf, invokes, runs, replies, aborts}
+use Rattle.rules.proofs.Table.{rt, be, given, invokes, runs, replies, aborts}
 use Rattle.rules.proofs.Table.{Case, caseOf, Shown, got, wanted}
 
 -- WHAT A CASE ASKS
@@ -49,7 +52,7 @@ oneLine e p m K n l =
 -- K = 1, m = 1, L = 10; clients 0, 1, 2 real-time with priorities 1, 2, 3; client 3 best-effort with cluster 0 and
 -- priority 0.
 abbrev pub logSetup : Setup
-logSetup = setupOf (1 ∷ []) (rt 0 1 ∷ rt 0 2 ∷ rt 0 3 ∷ be 0 0 ∷ []) 10
+logSetup = given (1 ∷ []) (rt 0 1 ∷ rt 0 2 ∷ rt 0 3 ∷ be 0 0 ∷ []) 10
 
 abbrev pub logRecords : List Record
 logRecords =
@@ -70,7 +73,7 @@ cases =
     gate (caseOf logSetup (replies ∷ runs 0 ∷ runs 1 ∷ [])
     (12 ∷ 13 ∷ 12 ∷ []) (none ∷ none ∷ none ∷ []) (0 ∷ 0 ∷ 0 ∷ 0 ∷ [])) ∷
     -- N = 0, invoke 0 gives 10
-    gate (caseOf (setupOf (1 ∷ []) [] 10) (invokes 0 ∷ []) (10 ∷ []) (none ∷ []) []) ∷
+    gate (caseOf (given (1 ∷ []) [] 10) (invokes 0 ∷ []) (10 ∷ []) (none ∷ []) []) ∷
     -- L = 10, served 10, run 1 gives 14
     gate (caseOf logSetup (invokes 0 ∷ runs 10 ∷ runs 1 ∷ [])
     (0 ∷ 0 ∷ 14 ∷ []) (some 0 ∷ some 0 ∷ some 0 ∷ []) (10 ∷ 0 ∷ 0 ∷ 0 ∷ [])) ∷
@@ -121,3 +124,43 @@ worstUnstruck-log = refl
 pub struck-log : struck logSetup 1 (reverse logRecords) ≡ true
 unfolding eventOf answer next step outranks refill queue pick invoked ran replied aborted
 struck-log = refl
+
+-- WITHOUT AN ABORT
+
+-- The same as far as it goes, but nobody is aborted: client 1 waits for the best-effort client, for client 2, and is
+-- served itself.
+abbrev pub quietRecords : List Record
+quietRecords = invokes 3 ∷ invokes 2 ∷ invokes 1 ∷ runs 10 ∷ replies ∷ runs 10 ∷ replies ∷ runs 10 ∷ []
+
+pub struck-quiet : struck logSetup 1 (reverse quietRecords) ≡ false
+unfolding eventOf answer next step outranks refill queue pick invoked ran replied aborted
+struck-quiet = refl
+
+-- Its charge is 30, so that the smaller bound is reached too.
+pub owed-quiet : owed logSetup 1 (reverse quietRecords) ≡ 30
+unfolding eventOf answer next step outranks refill queue pick invoked ran replied aborted
+owed-quiet = refl
+
+-- AT THE CHARGE LIMIT
+
+-- No log comes to such a state (Theorems, nineteen-never), so it is written out: client 0 is in service, with a charge one
+-- below the limit.
+abbrev pub nearLimit : State
+nearLimit = record {
+  lines = λ (k : ℕ). cond (eqb k 0) (0 ∷ []) [];
+  room = λ (c : ℕ). false;
+  global = [];
+  background = [];
+  server = front 0;
+  units = 0;
+  charge = λ (c : ℕ). cond (eqb c 0) 16777214 0;
+}
+
+pub at-limit : answer logSetup nearLimit (run 1) ≡ accepted
+unfolding answer outranks
+at-limit = refl
+
+-- one unit more is 19
+pub past-limit : answer logSetup nearLimit (run 2) ≡ unsound
+unfolding answer outranks
+past-limit = refl

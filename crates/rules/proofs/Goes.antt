@@ -3,7 +3,7 @@
 use Prim.Native.Nat.{ℕ, _+_, _≤_, _<_}
 use mathlib.Core.Path.{_≡_, refl, ap}
 use mathlib.Core.Bool.{Bool, true, false}
-use mathlib.Core.List.{List}
+use mathlib.Core.List.{List, tail}
 use native.Mathlib.Omega.{arith}
 use lib.Dec.{eqb}
 use lib.ListN.{length}
@@ -14,7 +14,7 @@ use Rattle.rules.specs.State.{State, Server, idle, front, best, spent, i
 use Rattle.rules.specs.Rank.{Rank}
 use Rattle.rules.specs.Queues.{waits}
 use Rattle.rules.proofs.Tests.{by-test, clash}
-use Rattle.rules.proofs.Lists.{tail, heads-same, heads-length, heads-cons, heads-tail}
+use Rattle.rules.proofs.Lists.{heads-same, heads-length, heads-cons, heads-tail}
 use Rattle.rules.proofs.Images.{map-has}
 use Rattle.rules.proofs.InOrder.{Valid, InOrder}
 use Rattle.rules.proofs.Ahead.{ahead, extra, round}

@@ -16,8 +16,9 @@ pub record Valid (u : Setup) : Type 0 where
   pub sizes : (k : ℕ) → k < u .clusters → 0 < u .size k
   pub homes : (c : ℕ) → c < u .clients → u .cluster c < u .clusters
 
-abbrev pub every : ℕ → Type 0
-every k = Unit {0}
+-- the clusters whose front has its turn: all of them, or all but k
+abbrev pub allClusters : ℕ → Type 0
+allClusters k = Unit {0}
 
 abbrev pub but : ℕ → ℕ → Type 0
 but k j = j ≡ k → ⊥
@@ -49,7 +50,7 @@ module _ (u : Setup) where
   pub record InOrder (s : State) : Type 0 where
     pub lined : Lined (s .lines) (s .room)
     pub full : Full u (s .lines) (s .room)
-    pub ordered : Ordered every (s .lines) (s .server) (s .global)
+    pub ordered : Ordered allClusters (s .lines) (s .server) (s .global)
     pub rests : s .server ≡ idle → (s .global ≡ []) × (s .background ≡ [])
     pub units-fit : s .units ≤ u .cap
 

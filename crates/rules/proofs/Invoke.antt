@@ -16,11 +16,11 @@ use Rattle.rules.specs.Rank.{Rank}
 use Rattle.rules.specs.Sound.{RoomSound}
 use Rattle.rules.specs.Queues.{waits, join, queue}
 use Rattle.rules.specs.Events.{behind, joined, roomed, arrive, invoked}
-use Rattle.rules.proofs.Tests.{by-test, clash, not-so, or-false, upd-other, upd-at}
+use Rattle.rules.proofs.Tests.{by-test, clash, not-so, both-false, upd-other, upd-at}
 use Rattle.rules.proofs.Lists.{has-snoc, snoc-has, heads-snoc}
 use Rattle.rules.proofs.Images.{map-has, at}
 use Rattle.rules.proofs.Due.{last, last-snoc}
-use Rattle.rules.proofs.InOrder.{Valid, every, but, turns, Ordered, InOrder}
+use Rattle.rules.proofs.InOrder.{Valid, allClusters, but, turns, Ordered, InOrder}
 use Rattle.rules.proofs.Passes.{Fails}
 use Rattle.rules.proofs.Lines.{MayJoin, lined-snoc, lined-room}
 use Rattle.rules.proofs.Turns.{ordered-heads, ordered-but, ordered-join, ordered-blocked, join-same}
@@ -78,7 +78,7 @@ module _ (u : Setup) (ok : Valid u) (rank : Rank) (c : ℕ) (s : State) (i : InO
     unfolding line
     joins h = record { known = known; real = real; home = refl; apart = out; space = h }
 
-    joined-arrived : (g : List ℕ) → length line < u .size (u .cluster c) → Ordered u every grown (s .server) g
+    joined-arrived : (g : List ℕ) → length line < u .size (u .cluster c) → Ordered u allClusters grown (s .server) g
         → ((j : ℕ) → has j (map (u .cluster) (s .global)) ≡ true
         → at j (map (u .cluster) g) ≤ at j (map (u .cluster) (s .global)))
         → Arrived u c s (lined-up g)
@@ -118,10 +118,10 @@ module _ (u : Setup) (ok : Valid u) (rank : Rank) (c : ℕ) (s : State) (i : InO
         same x r = upd-other (s .lines) (u .cluster c) (line ++ (c ∷ [])) (u .cluster x) (other x r)
 
     -- behind others
-    longer-ordered : 0 < length line → Ordered u every grown (s .server) (s .global)
+    longer-ordered : 0 < length line → Ordered u allClusters grown (s .server) (s .global)
     unfolding grown line
     longer-ordered n =
-        ordered-heads u every (s .lines) grown (s .server) (s .global)
+        ordered-heads u allClusters (s .lines) grown (s .server) (s .global)
         (λ j d h. upd-at (λ m. heads d m ≡ true) (s .lines) (u .cluster c) (line ++ (c ∷ [])) j
         (λ q. heads-snoc d c line (rw q at h)) (λ q. h))
         (λ j. upd-at (λ m. 0 < length m → 0 < length (s .lines j)) (s .lines) (u .cluster c) (line ++ (c ∷ [])) j
@@ -182,7 +182,7 @@ module _ (u : Setup) (ok : Valid u) (rank : Rank) (c : ℕ) (s : State) (i : InO
   pub invoked-comes : c < u .clients → waits u s c ≡ false → Comes u ok rank c s i (invoked u c s)
   unfolding invoked
   invoked-comes known n =
-      let apart = or-false (has c (s .lines (u .cluster c))) (s .room c) n in
+      let apart = both-false (has c (s .lines (u .cluster c))) (s .room c) n in
       by-test (realTime u c)
       (λ e. rw e (picked-comes u ok rank c s i (arrive u c (s .lines (u .cluster c)) s)
       (arrived known e (apart .0) (apart .1) (s .lines (u .cluster c)) refl) (s .server) refl))

@@ -15,7 +15,7 @@ use Rattle.rules.proofs.Tests.{clash}
 use Rattle.rules.proofs.Lists.{has-head, has-tail}
 use Rattle.rules.proofs.Images.{at, at-lt}
 use Rattle.rules.proofs.Counts.{distinct-below}
-use Rattle.rules.proofs.InOrder.{every, Lined, Ordered, InOrder}
+use Rattle.rules.proofs.InOrder.{allClusters, Lined, Ordered, InOrder}
 use Rattle.rules.proofs.Ahead.{ahead, extra, round}
 use Rattle.rules.proofs.Leaving.{put}
 use Rattle.rules.proofs.Goes.{front-idle, best-idle, best-front}
@@ -32,7 +32,7 @@ start-charge t (x ∷ g) b = refl
 
 module _ (u : Setup) where
   pub start-in-order : (t : State) (g b : List ℕ) → Lined u (t .lines) (t .room) → Full u (t .lines) (t .room)
-      → Ordered u every (t .lines) idle g → InOrder u (start t g b)
+      → Ordered u allClusters (t .lines) idle g → InOrder u (start t g b)
   start-in-order t [] [] h f o =
       record { lined = h; full = f; ordered = o; rests = λ e. (refl, refl); units-fit = omega arith }
   start-in-order t [] (x ∷ b) h f o =
@@ -80,7 +80,7 @@ module _ (u : Setup) where
         go [] h = clash h refl
         go (x ∷ g) h = refl
 
-    pub start-round : Ordered u every (t .lines) idle g → ahead u (start t g b) j ≤ round u
+    pub start-round : Ordered u allClusters (t .lines) idle g → ahead u (start t g b) j ≤ round u
     start-round o =
         let few = distinct-below (u .clusters) (map (u .cluster) g) (o .turn-once) (o .turn-below) in
         omega (

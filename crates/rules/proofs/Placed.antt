@@ -16,12 +16,12 @@ use Rattle.rules.specs.Sound.{BackgroundSound, BestSound, SpentSound, Ch
 use Rattle.rules.specs.Queues.{waits, join, queue, start, pick}
 use Rattle.rules.specs.Events.{charged, ran}
 use Rattle.rules.specs.Events.{freed, ended, replied, unqueue, spend, aborted}
-use Rattle.rules.proofs.Tests.{by-test, clash, not-so, or-true, upd-at}
+use Rattle.rules.proofs.Tests.{by-test, clash, not-so, either-true, upd-at}
 use Rattle.rules.proofs.Lists.{has-head, has-tail, heads-has}
 use Rattle.rules.proofs.Highest.{StrictTotal}
 use Rattle.rules.proofs.InOrder.{InOrder}
 use Rattle.rules.proofs.Leaving.{Left, left-cases, put}
-use Rattle.rules.proofs.Run.{charged-facts}
+use Rattle.rules.proofs.Run.{charged-known}
 
 module _ (u : Setup) where
   -- who is in service has no other place
@@ -97,11 +97,7 @@ module _ (u : Setup) where
         }
       where
         unknown : (c : ℕ) → u .clients ≤ c → charged u rank s c ≡ false
-        unknown c h =
-            not-so (charged u rank s c) (λ z.
-            or-true (has c (s .lines (u .cluster c))) (s .room c) (charged-facts u rank s c z .waiting)
-            (λ w. omega (arith, i .lined .line (u .cluster c) .known c w))
-            (λ w. omega (arith, i .lined .in-room c w .known)))
+        unknown c h = not-so (charged u rank s c) (λ z. omega (arith, charged-known u rank s c i z))
 
         go : (v : Server) → (v ≡ idle → ⊥) → Served (s .lines) (s .room) (s .background) (s .units) v
             → Served (s .lines) (s .room) (s .background) (s .units + n) v
@@ -143,7 +139,7 @@ module _ (u : Setup) where
           }))
           λ e.
           let m : has c (s .lines (u .cluster c)) ≡ true =
-          or-true (has c (s .lines (u .cluster c))) (s .room c) a (λ z. z) (λ z. clash z e) in
+          either-true (has c (s .lines (u .cluster c))) (s .room c) a (λ z. z) (λ z. clash z e) in
           let still : (l : ℕ → List ℕ) (r : ℕ → Bool) → Left u rank (u .cluster c) c (s .lines) (s .room) l r
           → Served l r (s .background) (s .units) (s .server) = λ l r g.
           left-served rank (u .cluster c) c (s .lines) l (s .room) r (s .background) (s .units) (s .server) g

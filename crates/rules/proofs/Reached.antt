@@ -16,7 +16,7 @@ use Rattle.rules.specs.Sound.{Sound}
 use Rattle.rules.specs.Events.{Event}
 use Rattle.rules.specs.Step.{answer, step}
 use Rattle.rules.specs.Records.{Record, eventOf, stepOf}
-use Rattle.rules.specs.History.{after, mark, struck}
+use Rattle.rules.specs.History.{after, struckWith, struck}
 use Rattle.rules.proofs.Tests.{by-test, clash}
 use Rattle.rules.proofs.Ranking.{Ranking}
 use Rattle.rules.proofs.Setups.{valid}
@@ -73,7 +73,7 @@ module _ (u : Setup) where
 
   module _ (a : Accepted u) (ranking : Ranking u) where
     event-holds : (s : State) (f : ℕ → Bool) → Holds s f → (o : Option Event)
-        → Holds (stepOf u s o) (λ x. mark u x s o (f x))
+        → Holds (stepOf u s o) (λ x. struckWith u x s o (f x))
     unfolding step
     event-holds s f i none = i
     event-holds s f i (some e) =

@@ -18,7 +18,7 @@ use Rattle.rules.proofs.Tests.{by-test, clash}
 use Rattle.rules.proofs.Lists.{has-head, has-tail, heads-has}
 use Rattle.rules.proofs.Images.{at}
 use Rattle.rules.proofs.Highest.{StrictTotal}
-use Rattle.rules.proofs.InOrder.{Valid, every, but, turns, Ordered, InOrder}
+use Rattle.rules.proofs.InOrder.{Valid, allClusters, but, turns, Ordered, InOrder}
 use Rattle.rules.proofs.Ahead.{turnOf, ahead, round}
 use Rattle.rules.proofs.Passes.{keeps, Passes}
 use Rattle.rules.proofs.Leaving.{Left, left-cases, put}
@@ -37,7 +37,7 @@ module _ (u : Setup) (ok : Valid u) (rank : Rank) (s : State) (i : InOrder u s) 
 
   -- the lines stay
   same-passes : (t : State) (g b : List ℕ) (x : ℕ) (f : Bool)
-      → t .lines ≡ s .lines → t .room ≡ s .room → t .charge ≡ s .charge → Ordered u every (s .lines) idle g
+      → t .lines ≡ s .lines → t .room ≡ s .room → t .charge ≡ s .charge → Ordered u allClusters (s .lines) idle g
       → ((j : ℕ) → 0 < length (s .lines j) → ahead u (start t g b) j ≤ ahead u s j)
       → Passes u rank s (start t g b) x f f
   same-passes t g b x f el er ec o a =
@@ -72,7 +72,7 @@ module _ (u : Setup) (ok : Valid u) (rank : Rank) (s : State) (i : InOrder u s) 
             (λ j n. sooner (freed s) (s .global) b j (o .turn-of j tt n) refl (rw e));
       }
     where
-      o : Ordered u every (s .lines) idle (s .global)
+      o : Ordered u allClusters (s .lines) idle (s .global)
       o =
           record {
             global-front = i .ordered .global-front;
@@ -125,7 +125,7 @@ module _ (u : Setup) (ok : Valid u) (rank : Rank) (s : State) (i : InOrder u s) 
         t : State
         t = queue u (u .cluster c) (freed s)
 
-        o : Ordered u every (s .lines) idle g
+        o : Ordered u allClusters (s .lines) idle g
         o =
             ordered-join u (u .cluster c) (s .lines) idle (s .global) low (i .lined .line (u .cluster c)) (alone .0)
             freed-but
@@ -162,7 +162,7 @@ module _ (u : Setup) (ok : Valid u) (rank : Rank) (s : State) (i : InOrder u s) 
         t : State
         t = queue u (u .cluster c) (put l r (freed s))
 
-        o : Ordered u every l idle g
+        o : Ordered u allClusters l idle g
         o =
             ordered-join u (u .cluster c) l idle (s .global) low (left .lined .line (u .cluster c)) (alone .0)
             (ordered-but u (u .cluster c) (s .lines) l idle (s .global) (left .others) (alone .0)

@@ -6,13 +6,13 @@ use mathlib.Core.Bool.{Bool, true, false, _&&_, cond}
 use native.Mathlib.Omega.{arith}
 use lib.Dec.{eqb, ltb}
 use borrow.Author.Tests.{eq-eqb, ltb-true, not-false}
-use Rattle.rules.specs.Lists.{has, count}
+use Rattle.rules.specs.Lists.{has, countBelow}
 use Rattle.rules.specs.Setup.{Setup, realTime}
 use Rattle.rules.specs.State.{State, Server, idle, front, best, spent}
 use Rattle.rules.specs.Rank.{Rank}
 use Rattle.rules.specs.Queues.{waits}
 use Rattle.rules.specs.Events.{charged, precedes, ran}
-use Rattle.rules.proofs.Tests.{by-test, clash, or-true, and-true}
+use Rattle.rules.proofs.Tests.{by-test, clash, either-true, both-true}
 use Rattle.rules.proofs.Counts.{distinct-count}
 use Rattle.rules.proofs.Due.{last, last-zero, due, due-keep, unless-le}
 use Rattle.rules.proofs.InOrder.{InOrder}
@@ -25,15 +25,22 @@ module _ (u : Setup) (rank : Rank) (s : State) where
   pub record Charged (c : ℕ) : Type 0 where
     pub real : realTime u c ≡ true
     pub waiting : waits u s c ≡ true
-    pub few : count (precedes u rank s c) (u .clients) < u .size (u .cluster c)
+    pub few : countBelow (precedes u rank s c) (u .clients) < u .size (u .cluster c)
 
   pub charged-facts : (c : ℕ) → charged u rank s c ≡ true → Charged c
   charged-facts c h =
-      let n : ℕ = count (precedes u rank s c) (u .clients) in
+      let n : ℕ = countBelow (precedes u rank s c) (u .clients) in
       let few : Bool = ltb n (u .size (u .cluster c)) in
-      let r = and-true (realTime u c) (waits u s c && few) h in
-      let e = and-true (waits u s c) few (r .1) in
+      let r = both-true (realTime u c) (waits u s c && few) h in
+      let e = both-true (waits u s c) few (r .1) in
       record { real = r .0; waiting = e .0; few = ltb-true n (u .size (u .cluster c)) (e .1) }
+
+  -- who is charged is a client
+  pub charged-known : (c : ℕ) → InOrder u s → charged u rank s c ≡ true → c < u .clients
+  charged-known c i h =
+      either-true (has c (s .lines (u .cluster c))) (s .room c) (charged-facts c h .waiting)
+      (i .lined .line (u .cluster c) .known c)
+      (λ w. i .lined .in-room c w .known)
 
   -- in the room, only while one that it outranks is in its line: else all m of the line outrank it
   room-charged : (c : ℕ) → InOrder u s → s .room c ≡ true → charged u rank s c ≡ true
@@ -59,7 +66,7 @@ module _ (u : Setup) (rank : Rank) (s : State) where
   line-charged : (c : ℕ) → s .room c ≡ false → charged u rank s c ≡ true
       → last (isIt c) (s .lines (u .cluster c)) ≡ 0 → ⊥
   line-charged c r h z =
-      or-true (has c (s .lines (u .cluster c))) (s .room c) (charged-facts c h .waiting)
+      either-true (has c (s .lines (u .cluster c))) (s .room c) (charged-facts c h .waiting)
       (λ e. clash (eq-eqb c c refl) (last-zero (isIt c) (s .lines (u .cluster c)) c z e))
       (λ e. clash e r)
 

@@ -10,7 +10,7 @@ use Rattle.rules.specs.Limits.{maxClusters, maxSize, maxClients, maxCap}
 use Rattle.rules.specs.Refusals.{accepted, badClusters, noCap, manyClients, badSize, badRow}
 use Rattle.rules.specs.Setup.{Setup, Accepted, Trimmed, trimmed, upTo, setupAnswer}
 use Rattle.rules.specs.Setup.{clustersFit, sizeFits, rowFits, firstBadSize, firstBadRow}
-use Rattle.rules.proofs.Tests.{and-true, passes-by}
+use Rattle.rules.proofs.Tests.{both-true, passes-by}
 use Rattle.rules.proofs.Counts.{none-failing, failing-same}
 use Rattle.rules.proofs.InOrder.{Valid}
 
@@ -35,7 +35,7 @@ module _ (u : Setup) where
       let n = passes-by (ltb maxClients (u .clients)) manyClients _ (omega arith) (l .1) in
       let m = passes-by (ltb (firstBadSize u) (u .clusters)) badSize _ (omega arith) (n .1) in
       let r = passes-by (ltb (firstBadRow u) (u .clients)) badRow accepted (omega arith) (m .1) in
-      let some = and-true (leb 1 (u .clusters)) (leb (u .clusters) maxClusters) (not-false (clustersFit u) (k .0)) in
+      let some = both-true (leb 1 (u .clusters)) (leb (u .clusters) maxClusters) (not-false (clustersFit u) (k .0)) in
       record {
         some-cluster = omega (arith, leb-true 1 (u .clusters) (some .0));
         few-clusters = leb-true (u .clusters) maxClusters (some .1);
@@ -55,12 +55,12 @@ module _ (u : Setup) where
       size : (j : ℕ) → ltb (firstBadSize u) (u .clusters) ≡ false → j < u .clusters
           → (leb 1 (u .size j) ≡ true) × (leb (u .size j) maxSize ≡ true)
       size j e h =
-          and-true (leb 1 (u .size j)) (leb (u .size j) maxSize) (none-failing (sizeFits u) (u .clusters) j e h)
+          both-true (leb 1 (u .size j)) (leb (u .size j) maxSize) (none-failing (sizeFits u) (u .clusters) j e h)
 
       row : (c : ℕ) → ltb (firstBadRow u) (u .clients) ≡ false → c < u .clients
           → (leb (u .kind c) 1 ≡ true) × (ltb (u .cluster c) (u .clusters) ≡ true)
       row c e h =
-          and-true (leb (u .kind c) 1) (ltb (u .cluster c) (u .clusters))
+          both-true (leb (u .kind c) 1) (ltb (u .cluster c) (u .clusters))
           (none-failing (rowFits u) (u .clients) c e h)
 
   pub valid : Accepted u → Valid u

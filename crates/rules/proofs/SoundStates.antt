@@ -3,7 +3,7 @@
 -- Assumes nothing.
 use Prim.Native.Nat.{ℕ, _≤_, _<_}
 use mathlib.Core.Path.{_≡_, refl, sym, _∙_}
-use mathlib.Core.Bool.{Bool, true, false, not, _&&_, _||_}
+use mathlib.Core.Bool.{Bool, true, false, not, _&&_, or-true}
 use mathlib.Core.List.{[], map}
 use native.Mathlib.Omega.{arith}
 use lib.Dec.{eqb}
@@ -13,7 +13,7 @@ use Rattle.rules.specs.Lists.{has, heads, Distinct}
 use Rattle.rules.specs.Setup.{Setup, Accepted, Trimmed}
 use Rattle.rules.specs.State.{State, Server, idle, front, best, spent, isFront, blocks}
 use Rattle.rules.specs.Sound.{Sound, ServerSound, queued}
-use Rattle.rules.proofs.Tests.{by-test, clash, not-so, or-true, and-true, same-test}
+use Rattle.rules.proofs.Tests.{by-test, clash, not-so, either-true, both-true, same-test}
 use Rattle.rules.proofs.Lists.{has-append, has-none, has-first, no-first, heads-has, heads-same, distinct-right}
 use Rattle.rules.proofs.Images.{has-map, map-has, distinct-map, map-distinct}
 use Rattle.rules.proofs.Setups.{valid}
@@ -34,8 +34,8 @@ module _ (u : Setup) (s : State) where
       let head : Bool = heads c (s .lines (u .cluster c)) in
       let apart : Bool = not (isFront (s .server) c) in
       let unblocked : Bool = not (blocks u (s .server) (u .cluster c)) in
-      let z = and-true (head && apart) unblocked e in
-      let y = and-true head apart (z .0) in
+      let z = both-true (head && apart) unblocked e in
+      let y = both-true head apart (z .0) in
       record {
         first = y .0;
         waiting = not-true (isFront (s .server) c) (y .1);
@@ -82,15 +82,15 @@ module _ (u : Setup) (s : State) where
     own-below idle p k e = clash e refl
     own-below (best c) p k e = clash e refl
     own-below (front c) p k e =
-        or-true (eqb (u .cluster c) k) false e
+        either-true (eqb (u .cluster c) k) false e
         (λ q. rw (← eqb-true (u .cluster c) k q) (front-below c p)) (λ q. clash q refl)
     own-below (spent c) p k e =
-        or-true (eqb (u .cluster c) k) false e
+        either-true (eqb (u .cluster c) k) false e
         (λ q. rw (← eqb-true (u .cluster c) k q) (ok .homes c (p .known))) (λ q. clash q refl)
 
     turns-below : (k : ℕ) → has k (turns u (s .server) (s .global)) ≡ true → k < u .clusters
     turns-below k e =
-        or-true (has k (own u (s .server))) (has k (map (u .cluster) (s .global))) (rw has-append at e)
+        either-true (has k (own u (s .server))) (has k (map (u .cluster) (s .global))) (rw has-append at e)
         (own-below (s .server) (h .server) k)
         (λ q. map-has (u .cluster) k (s .global) q (λ d a b. rw (← b) (front-below d (in-global d a .first))))
 
@@ -106,11 +106,7 @@ module _ (u : Setup) (s : State) where
         (λ b.
         let y : has x (s .global) ≡ true = h .global x ∙ rw (home, first, e, b) in
         let m : has k (map (u .cluster) (s .global)) ≡ true = rw home at (has-map (u .cluster) x (s .global) y) in
-        rw (has-append k (own u (s .server)) (map (u .cluster) (s .global)), m) (or-last (has k (own u (s .server)))))))
-      where
-        or-last : (b : Bool) → b || true ≡ true
-        or-last true = refl
-        or-last false = refl
+        rw (has-append k (own u (s .server)) (map (u .cluster) (s .global)), m) (or-true (has k (own u (s .server)))))))
 
     idle-global : s .server ≡ idle → (s .global ≡ []) × (s .background ≡ [])
     idle-global e =

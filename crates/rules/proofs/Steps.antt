@@ -1,6 +1,6 @@
 -- Every accepted event keeps soundness, and every client's invariant.
 -- Assumes nothing.
-use Prim.Native.Nat.{ℕ, _<_}
+use Prim.Native.Nat.{ℕ}
 use mathlib.Core.Path.{_≡_, refl, sym, _∙_}
 use mathlib.Core.Bool.{Bool, true, false, _||_, cond}
 use lib.Dec.{eqb}
@@ -12,17 +12,17 @@ use Rattle.rules.specs.State.{State}
 use Rattle.rules.specs.Rank.{outranks}
 use Rattle.rules.specs.Sound.{Sound}
 use Rattle.rules.specs.Queues.{waits}
-use Rattle.rules.specs.Events.{Event, invoke, run, reply, abort, charged, ran}
+use Rattle.rules.specs.Events.{Event, invoke, run, reply, abort, ran}
 use Rattle.rules.specs.Step.{answer, next, step}
 use Rattle.rules.specs.History.{begins, strikes}
-use Rattle.rules.proofs.Tests.{by-test, or-true}
+use Rattle.rules.proofs.Tests.{by-test}
 use Rattle.rules.proofs.Ranking.{Ranking}
 use Rattle.rules.proofs.Setups.{valid}
 use Rattle.rules.proofs.InOrder.{Valid, InOrder}
 use Rattle.rules.proofs.Kept.{Kept, begun, kept-rank}
 use Rattle.rules.proofs.Passes.{Passes, passed}
 use Rattle.rules.proofs.Goes.{line-waits, room-waits}
-use Rattle.rules.proofs.Run.{charged-facts, run-kept, run-in-order}
+use Rattle.rules.proofs.Run.{charged-known, run-kept, run-in-order}
 use Rattle.rules.proofs.Invoke.{invoked-comes}
 use Rattle.rules.proofs.Reply.{replied-goes}
 use Rattle.rules.proofs.Abort.{aborted-goes}
@@ -34,13 +34,6 @@ use Rattle.rules.proofs.SoundStates.{sound-in-order, sound-placed, soun
 
 module _ (u : Setup) (ok : Valid u) (ranking : Ranking u) (s : State) (i : InOrder u s) (p : Placed u s) where
   -- SOUNDNESS
-
-  -- who is charged is a client
-  charged-known : (c : ℕ) → charged u (outranks u s) s c ≡ true → c < u .clients
-  charged-known c e =
-      or-true (has c (s .lines (u .cluster c))) (s .room c) (charged-facts u (outranks u s) s c e .waiting)
-      (i .lined .line (u .cluster c) .known c)
-      (λ w. i .lined .in-room c w .known)
 
   pub next-in-order : (e : Event) → answer u s e ≡ accepted → InOrder u (next u s e)
   unfolding next
@@ -60,7 +53,7 @@ module _ (u : Setup) (ok : Valid u) (ranking : Ranking u) (s : State) (i : InOrd
       invoked-placed u s p c (q .known) (q .not-behind) (q .not-served)
   next-placed (run n) a =
       let q = run-accepted u s n a in
-      ran-placed u (outranks u s) s i p n (q .busy) (λ c e. q .within c (charged-known c e) e)
+      ran-placed u (outranks u s) s i p n (q .busy) (λ c e. q .within c (charged-known u (outranks u s) s c i e) e)
   next-placed reply a = replied-placed u (outranks u s) s i p (ranking .order s) (reply-accepted u s a)
   next-placed (abort c) a =
       let q = abort-accepted u s c a in

@@ -27,8 +27,8 @@ abbrev pub be : ℕ → ℕ → Row
 be k p = record { kind = 1; cluster = k; priority = p }
 
 -- the sizes of the clusters, the rows of the clients and the length cap; 0 past the end of either list
-abbrev pub setupOf : List ℕ → List Row → ℕ → Setup
-setupOf sizes rows cap = record {
+abbrev pub given : List ℕ → List Row → ℕ → Setup
+given sizes rows cap = record {
   clusters = length sizes;
   clients = length rows;
   cap = cap;
@@ -69,7 +69,7 @@ pub record Case : Type 0 where
 
 -- the five in that order
 abbrev pub caseOf : Setup → List Record → List ℕ → List (Option ℕ) → List ℕ → Case
-caseOf u rs given cs ns = record { setup = u; records = rs; answers = given; served = cs; charges = ns }
+caseOf u rs ms cs ns = record { setup = u; records = rs; answers = ms; served = cs; charges = ns }
 
 -- all that a case speaks of, the answer to its setup too
 pub record Shown : Type 0 where

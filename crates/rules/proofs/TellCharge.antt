@@ -10,72 +10,60 @@ use Rattle.rules.specs.Events.{invoked, ran, replied, aborted}
 use Rattle.rules.specs.Step.{answer, next, step}
 use Rattle.rules.specs.Records.{eventOf}
 use Rattle.rules.specs.Replay.{replayFrom, entriesFrom}
-use Rattle.rules.proofs.Table.{rt, be, setupOf, invokes, runs, replies, aborts}
+use Rattle.rules.proofs.Table.{rt, be, given, invokes, runs, replies, aborts}
 use Rattle.rules.proofs.Table.{Case, caseOf, got, wanted}
 
--- Each case stands under the wrong gate that it tells from the right one: a setup and its records, then the right
+-- Each case stands under the wrong gates that it tells from the right one: a setup and its records, then the right
 -- answers, clients in service and charges.
 unfoldable pub chargeCases : List Case
 chargeCases =
     -- charges stay 0
-    caseOf (setupOf (1 ∷ 2 ∷ []) (rt 1 1 ∷ []) 10) (invokes 0 ∷ runs 1 ∷ [])
-    (0 ∷ 0 ∷ []) (some 0 ∷ some 0 ∷ []) (1 ∷ []) ∷
     -- the client in service isn't charged
-    caseOf (setupOf (1 ∷ 2 ∷ []) (rt 1 1 ∷ []) 10) (invokes 0 ∷ runs 1 ∷ [])
+    caseOf (given (1 ∷ 2 ∷ []) (rt 1 1 ∷ []) 10) (invokes 0 ∷ runs 1 ∷ [])
     (0 ∷ 0 ∷ []) (some 0 ∷ some 0 ∷ []) (1 ∷ []) ∷
     -- only the client in service is charged
-    caseOf (setupOf (2 ∷ 1 ∷ []) (rt 0 1 ∷ rt 1 1 ∷ []) 10) (invokes 1 ∷ invokes 0 ∷ runs 5 ∷ [])
+    -- those who outrank are counted over all clusters
+    caseOf (given (2 ∷ 1 ∷ []) (rt 0 1 ∷ rt 1 1 ∷ []) 10) (invokes 1 ∷ invokes 0 ∷ runs 5 ∷ [])
     (0 ∷ 0 ∷ 0 ∷ []) (some 1 ∷ some 1 ∷ some 1 ∷ []) (5 ∷ 5 ∷ []) ∷
     -- everybody who waits is charged
-    caseOf (setupOf (1 ∷ []) (rt 0 3 ∷ rt 0 2 ∷ []) 10) (invokes 0 ∷ invokes 1 ∷ runs 10 ∷ [])
+    -- rank goes by client number only
+    -- the larger priority number is the more urgent
+    -- a client is charged with up to m others that outrank it
+    caseOf (given (1 ∷ []) (rt 0 3 ∷ rt 0 2 ∷ []) 10) (invokes 0 ∷ invokes 1 ∷ runs 10 ∷ [])
     (0 ∷ 0 ∷ 0 ∷ []) (some 0 ∷ some 0 ∷ some 0 ∷ []) (0 ∷ 10 ∷ []) ∷
     -- clients in a waiting room aren't charged
-    caseOf (setupOf (1 ∷ []) (rt 0 1 ∷ rt 0 2 ∷ []) 10) (invokes 1 ∷ invokes 0 ∷ runs 10 ∷ [])
+    -- those who outrank are counted over the line only
+    caseOf (given (1 ∷ []) (rt 0 1 ∷ rt 0 2 ∷ []) 10) (invokes 1 ∷ invokes 0 ∷ runs 10 ∷ [])
     (0 ∷ 0 ∷ 0 ∷ []) (some 1 ∷ some 1 ∷ some 1 ∷ []) (10 ∷ 0 ∷ []) ∷
     -- a spent client is still charged
-    caseOf (setupOf (1 ∷ []) (rt 0 2 ∷ []) 10) (invokes 0 ∷ aborts 0 ∷ runs 10 ∷ [])
+    caseOf (given (1 ∷ []) (rt 0 2 ∷ []) 10) (invokes 0 ∷ aborts 0 ∷ runs 10 ∷ [])
     (0 ∷ 0 ∷ 0 ∷ []) (some 0 ∷ some 0 ∷ some 0 ∷ []) (0 ∷ []) ∷
     -- a best-effort client in service is charged
-    caseOf (setupOf (1 ∷ 2 ∷ []) (be 0 2 ∷ []) 10) (invokes 0 ∷ runs 10 ∷ [])
+    caseOf (given (1 ∷ 2 ∷ []) (be 0 2 ∷ []) 10) (invokes 0 ∷ runs 10 ∷ [])
     (0 ∷ 0 ∷ []) (some 0 ∷ some 0 ∷ []) (0 ∷ []) ∷
     -- the charge doesn't become 0 on invoke
-    caseOf (setupOf (3 ∷ 3 ∷ []) (rt 1 1 ∷ []) 10) (invokes 0 ∷ runs 5 ∷ replies ∷ invokes 0 ∷ [])
+    caseOf (given (3 ∷ 3 ∷ []) (rt 1 1 ∷ []) 10) (invokes 0 ∷ runs 5 ∷ replies ∷ invokes 0 ∷ [])
     (0 ∷ 0 ∷ 0 ∷ 0 ∷ []) (some 0 ∷ some 0 ∷ none ∷ some 0 ∷ []) (0 ∷ []) ∷
     -- the charge is cleared by the reply
-    caseOf (setupOf (1 ∷ 2 ∷ []) (rt 1 1 ∷ []) 10) (invokes 0 ∷ runs 1 ∷ replies ∷ [])
+    caseOf (given (1 ∷ 2 ∷ []) (rt 1 1 ∷ []) 10) (invokes 0 ∷ runs 1 ∷ replies ∷ [])
     (0 ∷ 0 ∷ 0 ∷ []) (some 0 ∷ some 0 ∷ none ∷ []) (1 ∷ []) ∷
     -- the charge is cleared by the abort
-    caseOf (setupOf (2 ∷ 3 ∷ 2 ∷ []) (rt 2 3 ∷ []) 10) (invokes 0 ∷ runs 10 ∷ aborts 0 ∷ [])
+    caseOf (given (2 ∷ 3 ∷ 2 ∷ []) (rt 2 3 ∷ []) 10) (invokes 0 ∷ runs 10 ∷ aborts 0 ∷ [])
     (0 ∷ 0 ∷ 0 ∷ []) (some 0 ∷ some 0 ∷ some 0 ∷ []) (10 ∷ []) ∷
     -- of two equal priorities the larger client number outranks
-    caseOf (setupOf (1 ∷ []) (rt 0 2 ∷ rt 0 2 ∷ []) 10) (invokes 1 ∷ invokes 0 ∷ runs 5 ∷ [])
+    caseOf (given (1 ∷ []) (rt 0 2 ∷ rt 0 2 ∷ []) 10) (invokes 1 ∷ invokes 0 ∷ runs 5 ∷ [])
     (0 ∷ 0 ∷ 0 ∷ []) (some 1 ∷ some 1 ∷ some 1 ∷ []) (5 ∷ 0 ∷ []) ∷
-    -- rank goes by client number only
-    caseOf (setupOf (1 ∷ []) (rt 0 3 ∷ rt 0 2 ∷ []) 10) (invokes 0 ∷ invokes 1 ∷ runs 10 ∷ [])
-    (0 ∷ 0 ∷ 0 ∷ []) (some 0 ∷ some 0 ∷ some 0 ∷ []) (0 ∷ 10 ∷ []) ∷
-    -- the larger priority number is the more urgent
-    caseOf (setupOf (1 ∷ []) (rt 0 3 ∷ rt 0 2 ∷ []) 10) (invokes 0 ∷ invokes 1 ∷ runs 10 ∷ [])
-    (0 ∷ 0 ∷ 0 ∷ []) (some 0 ∷ some 0 ∷ some 0 ∷ []) (0 ∷ 10 ∷ []) ∷
-    -- a client is charged with up to m others that outrank it
-    caseOf (setupOf (1 ∷ []) (rt 0 3 ∷ rt 0 2 ∷ []) 10) (invokes 0 ∷ invokes 1 ∷ runs 10 ∷ [])
-    (0 ∷ 0 ∷ 0 ∷ []) (some 0 ∷ some 0 ∷ some 0 ∷ []) (0 ∷ 10 ∷ []) ∷
-    -- those who outrank are counted over the line only
-    caseOf (setupOf (1 ∷ []) (rt 0 1 ∷ rt 0 2 ∷ []) 10) (invokes 1 ∷ invokes 0 ∷ runs 10 ∷ [])
-    (0 ∷ 0 ∷ 0 ∷ []) (some 1 ∷ some 1 ∷ some 1 ∷ []) (10 ∷ 0 ∷ []) ∷
     -- those who outrank are counted over the waiting room only
-    caseOf (setupOf (1 ∷ []) (rt 0 3 ∷ rt 0 2 ∷ []) 10) (invokes 1 ∷ invokes 0 ∷ runs 10 ∷ [])
+    caseOf (given (1 ∷ []) (rt 0 3 ∷ rt 0 2 ∷ []) 10) (invokes 1 ∷ invokes 0 ∷ runs 10 ∷ [])
     (0 ∷ 0 ∷ 0 ∷ []) (some 1 ∷ some 1 ∷ some 1 ∷ []) (0 ∷ 10 ∷ []) ∷
-    -- those who outrank are counted over all clusters
-    caseOf (setupOf (2 ∷ 1 ∷ []) (rt 0 1 ∷ rt 1 1 ∷ []) 10) (invokes 1 ∷ invokes 0 ∷ runs 5 ∷ [])
-    (0 ∷ 0 ∷ 0 ∷ []) (some 1 ∷ some 1 ∷ some 1 ∷ []) (5 ∷ 5 ∷ []) ∷
     -- the spent client counts as one who outranks
-    caseOf (setupOf (1 ∷ []) (rt 0 2 ∷ rt 0 2 ∷ []) 10) (invokes 0 ∷ aborts 0 ∷ invokes 1 ∷ runs 5 ∷ [])
+    caseOf (given (1 ∷ []) (rt 0 2 ∷ rt 0 2 ∷ []) 10) (invokes 0 ∷ aborts 0 ∷ invokes 1 ∷ runs 5 ∷ [])
     (0 ∷ 0 ∷ 0 ∷ 0 ∷ []) (some 0 ∷ some 0 ∷ some 0 ∷ some 0 ∷ []) (0 ∷ 5 ∷ []) ∷
     -- the count is compared with K instead of m
-    caseOf (setupOf (2 ∷ []) (rt 0 1 ∷ rt 0 1 ∷ []) 10) (invokes 0 ∷ invokes 1 ∷ runs 5 ∷ [])
+    caseOf (given (2 ∷ []) (rt 0 1 ∷ rt 0 1 ∷ []) 10) (invokes 0 ∷ invokes 1 ∷ runs 5 ∷ [])
     (0 ∷ 0 ∷ 0 ∷ []) (some 0 ∷ some 0 ∷ some 0 ∷ []) (5 ∷ 5 ∷ []) ∷
     -- the count is compared with the size of cluster 0 for every client
-    caseOf (setupOf (1 ∷ 2 ∷ []) (rt 1 2 ∷ rt 1 2 ∷ []) 10) (invokes 1 ∷ invokes 0 ∷ runs 1 ∷ [])
+    caseOf (given (1 ∷ 2 ∷ []) (rt 1 2 ∷ rt 1 2 ∷ []) 10) (invokes 1 ∷ invokes 0 ∷ runs 1 ∷ [])
     (0 ∷ 0 ∷ 0 ∷ []) (some 1 ∷ some 1 ∷ some 1 ∷ []) (1 ∷ 1 ∷ []) ∷
     []
 

@@ -4,11 +4,10 @@ use Prim.Native.Nat.{ℕ, _≤_}
 use mathlib.Core.Path.{_≡_, refl}
 use mathlib.Core.List.{List, [], _∷_, reverseAux}
 use mathlib.Core.Option.{Option, some, none}
-use native.Mathlib.Omega.{arith}
 use borrow.Author.Tests.{ne-eqb}
 use Rattle.rules.specs.Limits.{maxCharge}
-use Rattle.rules.specs.Refusals.{accepted, badClusters, unsound}
-use Rattle.rules.specs.Setup.{Setup, Accepted, setupAnswer, trimmed, emptySetup}
+use Rattle.rules.specs.Refusals.{accepted, unsound}
+use Rattle.rules.specs.Setup.{Setup, Accepted, trimmed}
 use Rattle.rules.specs.State.{State}
 use Rattle.rules.specs.Rank.{outranks}
 use Rattle.rules.specs.Sound.{Sound}
@@ -47,11 +46,6 @@ stored-is-sum = charge-is-owed
 pub every-state-sound : (u : Setup) → Accepted u → (h : List Record) → Sound (trimmed u) (after (trimmed u) h)
 every-state-sound u a h =
     reached-sound (trimmed u) (trimmed-accepted u a) (by-priority (trimmed u)) (trimmed-is u) h
-
--- The empty gate is not sound, whatever it holds.
-pub empty-not-sound : (s : State) → Sound emptySetup s → ⊥
-unfolding setupAnswer
-empty-not-sound s h = let e : badClusters ≡ accepted = h .setup .no-refusal in omega arith
 
 -- From any sound state an event, accepted or refused, leaves a sound state.
 pub sound-stays : (u : Setup) (s : State) (o : Option Event) → Sound u s → Sound u (stepOf u s o)

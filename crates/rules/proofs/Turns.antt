@@ -13,11 +13,11 @@ use Rattle.rules.specs.Setup.{Setup}
 use Rattle.rules.specs.State.{Server, idle, front, best, spent, blocks}
 use Rattle.rules.specs.Sound.{LineSound}
 use Rattle.rules.specs.Queues.{join}
-use Rattle.rules.proofs.Tests.{by-test, clash, or-false}
+use Rattle.rules.proofs.Tests.{by-test, clash, both-false}
 use Rattle.rules.proofs.Lists.{has-append, has-snoc, snoc-has, remove-has, remove-other, removed}
 use Rattle.rules.proofs.Lists.{distinct-remove, distinct-snoc}
 use Rattle.rules.proofs.Images.{has-map, map-snoc, map-remove, at, at-snoc, at-remove}
-use Rattle.rules.proofs.InOrder.{every, but, own, turns, Ordered}
+use Rattle.rules.proofs.InOrder.{allClusters, but, own, turns, Ordered}
 use Rattle.rules.proofs.Ahead.{turnOf}
 
 module _ (u : Setup) where
@@ -53,7 +53,7 @@ module _ (u : Setup) where
       }
 
   pub weaken : (Q : ℕ → Type 0) (l : ℕ → List ℕ) (v : Server) (g : List ℕ)
-      → Ordered u every l v g → Ordered u Q l v g
+      → Ordered u allClusters l v g → Ordered u Q l v g
   weaken Q l v g h =
       record {
         global-front = h .global-front;
@@ -70,10 +70,10 @@ module _ (u : Setup) where
 
   pub ordered-join : (k : ℕ) (l : ℕ → List ℕ) (v : Server) (g : List ℕ)
       → k < u .clusters → LineSound u k (l k) → has k (turns u v g) ≡ false
-      → Ordered u (but k) l v g → Ordered u every l v (join (l k) g)
+      → Ordered u (but k) l v g → Ordered u allClusters l v (join (l k) g)
   ordered-join k l v g b good n h = go (l k) refl
     where
-      go : (m : List ℕ) → l k ≡ m → Ordered u every l v (join m g)
+      go : (m : List ℕ) → l k ≡ m → Ordered u allClusters l v (join m g)
       go [] e =
           record {
             global-front = h .global-front;
@@ -122,7 +122,7 @@ module _ (u : Setup) where
       (λ e. rw (e, map-remove (u .cluster) c g m (h .1)))
 
   pub ordered-unqueue : (c : ℕ) (l : ℕ → List ℕ) (v : Server) (g : List ℕ)
-      → has c g ≡ true → Ordered u every l v g
+      → has c g ≡ true → Ordered u allClusters l v g
       → Ordered u (but (u .cluster c)) l v (remove c g) × (has (u .cluster c) (turns u v (remove c g)) ≡ false)
   ordered-unqueue c l v g m h =
       let e = turns-remove v c g m (h .turn-once) in (
@@ -165,7 +165,7 @@ module _ (u : Setup) where
 
   pub turns-right : (v : Server) (g : List ℕ) (k : ℕ)
       → has k (turns u v g) ≡ false → has k (map (u .cluster) g) ≡ false
-  turns-right v g k h = or-false (has k (own u v)) (has k (map (u .cluster) g)) (rw has-append at h) .1
+  turns-right v g k h = both-false (has k (own u v)) (has k (map (u .cluster) g)) (rw has-append at h) .1
 
   -- a blocked cluster has its turn by its spent client, and none in the global queue
   pub blocked-turn : (v : Server) (g : List ℕ) (k : ℕ) → blocks u v k ≡ true → has k (turns u v g) ≡ true
@@ -182,7 +182,7 @@ module _ (u : Setup) where
   blocked-apart (spent d) g k b h = rw (eqb-true (u .cluster d) k b) at (h .0)
 
   pub ordered-blocked : (k : ℕ) (l : ℕ → List ℕ) (v : Server) (g : List ℕ)
-      → blocks u v k ≡ true → Ordered u (but k) l v g → Ordered u every l v g
+      → blocks u v k ≡ true → Ordered u (but k) l v g → Ordered u allClusters l v g
   ordered-blocked k l v g b h =
       record {
         global-front = h .global-front;

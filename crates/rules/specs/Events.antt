@@ -5,7 +5,7 @@ use mathlib.Core.Bool.{Bool, true, false, _&&_, cond}
 use mathlib.Core.List.{List, [], _∷_, _++_}
 use lib.Dec.{eqb, ltb}
 use lib.ListN.{length}
-use Rattle.rules.specs.Lists.{upd, remove, heads, count}
+use Rattle.rules.specs.Lists.{upd, remove, heads, countBelow}
 use Rattle.rules.specs.Setup.{Setup, realTime}
 use Rattle.rules.specs.State.{State, Server, idle, front, best, spent, isFront}
 use Rattle.rules.specs.State.{withLine, withRoom, withGlobal, withBackground, withServer, withCharge}
@@ -56,7 +56,7 @@ module _ (u : Setup) (rank : Rank) where
   -- than m clients in the line or waiting room of its cluster outrank it.
   abbrev pub charged : State → ℕ → Bool
   charged s c =
-      realTime u c && (waits u s c && ltb (count (precedes s c) (u .clients)) (u .size (u .cluster c)))
+      realTime u c && (waits u s c && ltb (countBelow (precedes s c) (u .clients)) (u .size (u .cluster c)))
 
   -- Run n. Units served grow by n. Each charged client's charge grows by n.
   unfoldable pub ran : ℕ → State → State

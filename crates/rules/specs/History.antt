@@ -22,7 +22,7 @@ module _ (u : Setup) where
 
   -- THE CHARGE OF A CLIENT'S LATEST WAIT
 
-  -- A wait runs from an accepted invoke: the event begins one of c.
+  -- A wait runs from an accepted invoke: the event begins one of c, a real-time client, as only these are charged.
   abbrev pub begins : ℕ → Event → Bool
   begins c (invoke d) = eqb d c && realTime u c
   begins c (run n) = false
@@ -37,14 +37,14 @@ module _ (u : Setup) where
   adds c s (abort d) = 0
 
   -- the sum with a record that finds the state s; a refused one adds nothing
-  abbrev pub sum : ℕ → State → Option Event → ℕ → ℕ
-  sum c s none n = n
-  sum c s (some e) n = cond (eqb (answer u s e) accepted) (cond (begins c e) 0 (n + adds c s e)) n
+  abbrev pub owedWith : ℕ → State → Option Event → ℕ → ℕ
+  owedWith c s none n = n
+  owedWith c s (some e) n = cond (eqb (answer u s e) accepted) (cond (begins c e) 0 (n + adds c s e)) n
 
   -- the units of all accepted runs that charged c, from its latest accepted invoke on
   abbrev pub owed : ℕ → List Record → ℕ
   owed c [] = 0
-  owed c (r ∷ h) = sum c (after h) (eventOf r) (owed c h)
+  owed c (r ∷ h) = owedWith c (after h) (eventOf r) (owed c h)
 
   -- WHETHER ITS CLUSTER'S REQUEST IN SERVICE WAS ABORTED MEANWHILE
 
@@ -56,12 +56,12 @@ module _ (u : Setup) where
   strikes c s (abort d) =
       ((waits u s c && not (eqb d c)) && isFront (s .server) d) && eqb (u .cluster d) (u .cluster c)
 
-  abbrev pub mark : ℕ → State → Option Event → Bool → Bool
-  mark c s none b = b
-  mark c s (some e) b =
+  abbrev pub struckWith : ℕ → State → Option Event → Bool → Bool
+  struckWith c s none b = b
+  struckWith c s (some e) b =
       cond (eqb (answer u s e) accepted) (cond (begins c e) false (strikes c s e || b)) b
 
   -- an accepted abort hit its own cluster's request in service during c's latest wait
   abbrev pub struck : ℕ → List Record → Bool
   struck c [] = false
-  struck c (r ∷ h) = mark c (after h) (eventOf r) (struck c h)
+  struck c (r ∷ h) = struckWith c (after h) (eventOf r) (struck c h)

@@ -26,15 +26,20 @@ maxCharge = 16777215
 abbrev pub unusedPlace : ℕ
 unusedPlace = 255
 
--- The quote: own work e, period p, and of each server line calls N and cap L.
+-- THE QUOTE
+
+-- own work e (1 to 1,000,000,000)
 abbrev pub maxWork : ℕ
 maxWork = 1000000000
 
+-- period p (1 to 200,000,000,000)
 abbrev pub maxPeriod : ℕ
 maxPeriod = 200000000000
 
+-- up to 16 server lines
 abbrev pub maxLines : ℕ
 maxLines = 16
 
+-- calls N (0 to 1,000)
 abbrev pub maxCalls : ℕ
 maxCalls = 1000

@@ -26,6 +26,7 @@ pub record Quote : Type 0 where
 
 -- RANGES
 
+-- from low to high; a field is signed
 abbrev pub inRange : ℕ → ℕ → ℤ → Bool
 inRange low high (pos n) = leb low n && leb n high
 inRange low high (negsuc n) = false

@@ -2,6 +2,7 @@
 -- Assumes nothing.
 use Prim.Native.Nat.{ℕ}
 
+-- accepted
 abbrev pub accepted : ℕ
 accepted = 0
 

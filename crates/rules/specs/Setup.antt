@@ -28,14 +28,23 @@ service u = u .cap
 
 -- REFUSALS
 
+-- Clusters K: 1 to 8.
 abbrev pub clustersFit : Setup → Bool
 clustersFit u = leb 1 (u .clusters) && leb (u .clusters) maxClusters
 
+-- A cluster size is 1 to 8.
+abbrev pub fitSize : ℕ → Bool
+fitSize m = leb 1 m && leb m maxSize
+
 abbrev pub sizeFits : Setup → ℕ → Bool
-sizeFits u k = leb 1 (u .size k) && leb (u .size k) maxSize
+sizeFits u k = fitSize (u .size k)
+
+-- A client's kind is 0 or 1, and its cluster is below K.
+abbrev pub fitRow : ℕ → ℕ → ℕ → Bool
+fitRow K kind k = leb kind 1 && ltb k K
 
 abbrev pub rowFits : Setup → ℕ → Bool
-rowFits u c = leb (u .kind c) 1 && ltb (u .cluster c) (u .clusters)
+rowFits u c = fitRow (u .clusters) (u .kind c) (u .cluster c)
 
 -- the first cluster whose size is bad, K if none is
 abbrev pub firstBadSize : Setup → ℕ
@@ -84,19 +93,3 @@ pub record Trimmed (u : Setup) : Type 0 where
   pub kinds : (c : ℕ) → u .clients ≤ c → u .kind c ≡ 0
   pub homes : (c : ℕ) → u .clients ≤ c → u .cluster c ≡ 0
   pub priorities : (c : ℕ) → u .clients ≤ c → u .priority c ≡ 0
-
--- K, N and L 0, and all other numbers 0: the setup of the empty gate.
-abbrev pub emptySetup : Setup
-emptySetup = record {
-  clusters = 0;
-  clients = 0;
-  cap = 0;
-  size = λ (k : ℕ). 0;
-  kind = λ (c : ℕ). 0;
-  cluster = λ (c : ℕ). 0;
-  priority = λ (c : ℕ). 0;
-}
-
--- The setup of the gate that is made: a refused setup yields the empty gate.
-abbrev pub setupOfFresh : Setup → Setup
-setupOfFresh u = cond (eqb (setupAnswer u) accepted) (trimmed u) emptySetup

@@ -61,7 +61,7 @@ module _ (u : Setup) where
     pub apart : has c (lines (u .cluster c)) ≡ false
     pub out : room c ≡ false
 
-  -- A front in service is the front of its line.
+  -- Whoever is in service, by its case. A front in service is the front of its line.
   abbrev pub ServerSound : State → Server → Type 0
   ServerSound s idle = Rests s
   ServerSound s (front c) = heads c (s .lines (u .cluster c)) ≡ true

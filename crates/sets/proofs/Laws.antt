@@ -76,6 +76,19 @@ setOf-member n s h = sym (is-setOf n s (member s) h (λ j l. refl))
 pub setOf-same : (n : ℕ) (p q : ℕ → Bool) → ((j : ℕ) → j < n → p j ≡ q j) → setOf n p ≡ setOf n q
 setOf-same n p q h = is-setOf n (setOf n p) q (setOf-below n p) (λ j l. member-setOf n p j l ∙ h j l)
 
+-- a set of numbers below n is a word of w bits
+pub setOf-word : (n w : ℕ) (p : ℕ → Bool) → n ≤ w → setOf n p < 2 ^ w
+setOf-word n w p h = lt-of-lt-of-le (setOf-below n p) (pow-mono h)
+
+-- tests that agree below n, of which one fails from there on, have the same set
+pub setOf-cut : (n w : ℕ) (p q : ℕ → Bool) → n ≤ w → ((j : ℕ) → j < n → p j ≡ q j)
+    → ((j : ℕ) → j < w → n ≤ j → q j ≡ false) → setOf n p ≡ setOf w q
+setOf-cut n w p q h same past =
+    is-setOf w (setOf n p) q (setOf-word n w p h) λ j l.
+    by-cases (decLt j n)
+    (λ b. member-setOf n p j b ∙ same j b)
+    (λ b. member-setOf-past n p j (omega arith) ∙ sym (past j l (omega arith)))
+
 -- ONE MEMBER MORE OR LESS
 
 -- a set with c in it or out of it, as b says
@@ -106,7 +119,7 @@ setOf-more w n p h e =
     rw (add-one n)
     (sym
     (is-setOf w (setOf (suc n) p) (upd (member (setOf n p)) n true)
-    (lt-of-lt-of-le (setOf-below (suc n) p) (pow-mono h)) λ j l.
+    (setOf-word (suc n) w p h) λ j l.
     by-cases (ℕ-discrete j n)
     (λ q. rw (q, eq-eqb n n refl, member-setOf (suc n) p n (omega arith)) e)
     (λ d. rw (ne-eqb j n d) (others n p j d))))
@@ -117,9 +130,6 @@ setOf-skip n p e = rw (add-one n, e) (omega arith)
 
 -- NONE
 
--- a set is empty if no number below n passes the test, and only then
+-- a set is empty if no number below n passes the test
 pub setOf-none : (n : ℕ) (p : ℕ → Bool) → ((j : ℕ) → j < n → p j ≡ false) → setOf n p ≡ 0
 setOf-none n p h = sym (is-setOf n 0 p (pow-pos n) (λ j l. member-none j ∙ sym (h j l)))
-
-pub none-setOf : (n : ℕ) (p : ℕ → Bool) → setOf n p ≡ 0 → (j : ℕ) → j < n → p j ≡ false
-none-setOf n p e j l = sym (member-setOf n p j l) ∙ rw e (member-none j)

@@ -1,6 +1,6 @@
 -- What the machine's shifts, ors, xors and counts of bits give, as sets. For any width n.
 -- Assumes nothing.
-use Prim.Native.Nat.{ℕ, zero, suc, _+_, _*_, _%_, _^_, _<_}
+use Prim.Native.Nat.{ℕ, zero, suc, _+_, _*_, _%_, _^_, _≤_, _<_}
 use mathlib.Core.Path.{_≡_, refl, sym, ap, ap₂, _∙_}
 use mathlib.Core.Bool.{Bool, true, false, xor, _||_, cond}
 use native.Mathlib.Nat.{one-mul, zero-add}
@@ -11,10 +11,10 @@ use lib.Count.{ones, ones-cat}
 use lib.Dec.{lit<, eqb}
 use lib.Pow.{pow-lt, shl-exact}
 use Rattle.rules.specs.Limits.{maxClients}
-use Rattle.rules.specs.Lists.{upd, count}
+use Rattle.rules.specs.Lists.{upd, countBelow}
 use Rattle.sets.specs.Sets.{member, setOf, countOf}
 use Rattle.sets.proofs.Bits.{member-one, member-or, member-xor}
-use Rattle.sets.proofs.Laws.{setOf-below, setOf-member, is-setOf}
+use Rattle.sets.proofs.Laws.{setOf-below, setOf-word, setOf-member, is-setOf}
 
 -- a one, shifted within the word
 pub one-shifted : (n c : ℕ) → c < n → (1 * 2 ^ c) % 2 ^ n ≡ 2 ^ c
@@ -56,26 +56,23 @@ or-both n s t hs ht =
     is-setOf n (bitOr s t) (λ (j : ℕ). member s j || member t j) (or-lt n s t hs ht) (λ j m. member-or s t j)
 
 -- the bits of a set are counted as its members
-pub ones-setOf : (n : ℕ) (p : ℕ → Bool) → ones (setOf n p) ≡ count p n
+pub ones-setOf : (n : ℕ) (p : ℕ → Bool) → ones (setOf n p) ≡ countBelow p n
 unfolding setOf ones
 ones-setOf zero p = refl
 ones-setOf (suc n) p = go (p n) (setOf n p) (setOf-below n p) (ones-setOf n p)
   where
     go :
-        (b : Bool) (r : ℕ) → r < 2 ^ n → ones r ≡ count p n
-        → ones (cond b (2 ^ n) 0 + r) ≡ cond b (suc (count p n)) (count p n)
+        (b : Bool) (r : ℕ) → r < 2 ^ n → ones r ≡ countBelow p n
+        → ones (cond b (2 ^ n) 0 + r) ≡ cond b (suc (countBelow p n)) (countBelow p n)
     go true r h e =
         ap (λ (x : ℕ). ones (x + r)) (sym (one-mul (2 ^ n))) ∙ ones-cat n 1 r h ∙ ap (λ (x : ℕ). 1 + x) e
-        ∙ one-add (count p n)
+        ∙ one-add (countBelow p n)
     go false r h e = ap ones (zero-add r) ∙ e
 
-pub ones-count : (n s : ℕ) → s < 2 ^ n → ones s ≡ count (member s) n
+pub ones-count : (n s : ℕ) → s < 2 ^ n → ones s ≡ countBelow (member s) n
 ones-count n s h = ap ones (sym (setOf-member n s h)) ∙ ones-setOf n (member s)
 
 -- how many are in a set
-pub count-setOf : (n : ℕ) (p : ℕ → Bool) → count (member (setOf n p)) n ≡ count p n
-count-setOf n p = sym (ones-count n (setOf n p) (setOf-below n p)) ∙ ones-setOf n p
-
-pub countOf-setOf : (p : ℕ → Bool) → countOf (setOf maxClients p) ≡ count p maxClients
+pub countOf-setOf : (n : ℕ) (p : ℕ → Bool) → n ≤ maxClients → countOf (setOf n p) ≡ countBelow p n
 unfolding countOf
-countOf-setOf p = count-setOf maxClients p
+countOf-setOf n p h = sym (ones-count maxClients (setOf n p) (setOf-word n maxClients p h)) ∙ ones-setOf n p

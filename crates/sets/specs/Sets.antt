@@ -4,7 +4,7 @@ use Prim.Native.Nat.{ℕ, zero, suc, _+_, _/_, _%_, _^_}
 use mathlib.Core.Bool.{Bool, true, false, _||_, cond}
 use lib.Dec.{eqb}
 use Rattle.rules.specs.Limits.{maxClients}
-use Rattle.rules.specs.Lists.{upd, count}
+use Rattle.rules.specs.Lists.{upd, countBelow}
 
 -- j is in the set s: bit j of s is 1
 unfoldable pub member : ℕ → ℕ → Bool
@@ -29,4 +29,4 @@ unionOf s t = setOf maxClients (λ (c : ℕ). member s c || member t c)
 
 -- how many clients are in the set s
 unfoldable pub countOf : ℕ → ℕ
-countOf s = count (member s) maxClients
+countOf s = countBelow (member s) maxClients

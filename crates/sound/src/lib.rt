@@ -1,5 +1,6 @@
 // Whether a gate is sound, in every clause of the definition. A gate of any contents has an answer.
 
+use gate::Cluster;
 use gate::Gate;
 use gate::Line;
 use gate::Server;
@@ -35,9 +36,9 @@ fn all_below(x: u64, n: usize) -> bool
 }
 
 // Client c is not in the room of cluster k, or may wait there: it stands nowhere.
-fn may_wait(s: Setup, k: usize, room: u64, stand: u64, c: usize) -> bool
+fn may_wait(s: Setup, k: Cluster, room: u64, stand: u64, c: usize) -> bool
     requires { ⌜ Fine s ⌝ }
-    ensures { λ r. ⌜ r ≡ mayWait (setupOf s) k room stand c ⌝ }
+    ensures { λ r. ⌜ r ≡ mayWait (setupOf s) (k .0) room stand c ⌝ }
 {
     if !sets::member(room, c) {
         return true;
@@ -49,9 +50,9 @@ fn may_wait(s: Setup, k: usize, room: u64, stand: u64, c: usize) -> bool
 }
 
 // Every client in the room of cluster k may wait there.
-fn all_may_wait(s: Setup, k: usize, room: u64, stand: u64) -> bool
+fn all_may_wait(s: Setup, k: Cluster, room: u64, stand: u64) -> bool
     requires { ⌜ Fine s ⌝ }
-    ensures { λ r. ⌜ r ≡ allBelow (s .clients) (mayWait (setupOf s) k room stand) ⌝ }
+    ensures { λ r. ⌜ r ≡ allBelow (s .clients) (mayWait (setupOf s) (k .0) room stand) ⌝ }
 {
     let n = gate::wide(s.clients);
     let mut c: usize = 0;
@@ -64,9 +65,9 @@ fn all_may_wait(s: Setup, k: usize, room: u64, stand: u64) -> bool
     true
 }
 
-fn room_sound(s: Setup, k: usize, line: Line, room: u64, stand: u64) -> bool
-    requires { ⌜ (k < maxClusters) × Fine s ⌝ }
-    ensures { λ r. ⌜ r ≡ roomSound (setupOf s) stand k (unpad (line .places)) room ⌝ }
+fn room_sound(s: Setup, k: Cluster, line: Line, room: u64, stand: u64) -> bool
+    requires { ⌜ (k .0 < maxClusters) × Fine s ⌝ }
+    ensures { λ r. ⌜ r ≡ roomSound (setupOf s) stand (k .0) (unpad (line .places)) room ⌝ }
 {
     if room == 0 {
         return true;
@@ -78,7 +79,8 @@ fn room_sound(s: Setup, k: usize, line: Line, room: u64, stand: u64) -> bool
         return false;
     }
     let q = line.places;
-    gate::wide(s.sizes[k]) <= places::used(&q)
+    let i = k.0;
+    gate::wide(s.sizes[i]) <= places::used(&q)
 }
 
 fn rooms_sound(s: Setup, lines: [Line; 8], rooms: [u64; 8], stand: u64) -> bool
@@ -88,7 +90,7 @@ fn rooms_sound(s: Setup, lines: [Line; 8], rooms: [u64; 8], stand: u64) -> bool
     let mut k: usize = 0;
     while k < Gate::MAX_CLUSTERS {
         let line = lines[k];
-        if !room_sound(s, k, line, rooms[k], stand) {
+        if !room_sound(s, Cluster(k), line, rooms[k], stand) {
             return false;
         }
         k += 1;
@@ -138,7 +140,8 @@ fn spent_sound(s: Setup, rooms: [u64; 8], stand: u64, c: usize) -> bool
         return false;
     }
     let k = rows::cluster_of(s, c);
-    !sets::member(rooms[k], c)
+    let i = k.0;
+    !sets::member(rooms[i], c)
 }
 
 fn server_sound(g: Gate, stand: u64) -> bool

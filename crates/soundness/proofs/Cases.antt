@@ -1,11 +1,13 @@
 -- The definition, tried on gates that are written out: each case computes. Document 01's setup, K = 1, m = 1, L = 10
 -- and four clients, the last of them best-effort: the gate after invoke 3, 2 and 1, and that with one thing wrong.
+-- Where it takes two clusters, client 2 is of the second.
 -- Assumes nothing.
 use Prim.Native.Nat.{ℕ, suc}
 use mathlib.Core.Path.{_≡_, refl}
 use mathlib.Core.Bool.{Bool, true, false, cond}
 use mathlib.Core.List.{List, [], _∷_}
 use lib.Dec.{eqb, ltb}
+use lib.ListN.{getD}
 use Rattle.rules.specs.Setup.{setupAnswer}
 use Rattle.rules.specs.State.{fresh}
 use Rattle.sets.specs.Sets.{member, setOf}
@@ -16,28 +18,38 @@ use Rattle.gate.specs.declared.Server.the-variants.{Idle, Front, Best, Spent}
 use Rattle.gate.specs.declared.Gate.{Gate}
 use Rattle.gate.specs.Shown.{stateOf, shown, table, client}
 use Rattle.soundness.specs.Tests.{every, allBelow, zeros, distinct, joined, setIn, firstIn}
-use Rattle.soundness.specs.Clauses.{soundOf, setupSound, zeroPast as rowsPast, laid, lineSound, linesSound}
+use Rattle.soundness.specs.Clauses.{soundOf, setupSound, isTrimmed, laid, lineSound, linesSound}
 use Rattle.soundness.specs.Clauses.{backgroundSound, roomSound, roomsSound, globalSound, chargesSound}
 use Rattle.soundness.specs.Clauses.{standSound, restSound}
 
--- the setup, of a size m and a priority of the row past N
-abbrev setup : ℕ → ℕ → Setup
-setup m p = record {
-  clusters = 1;
+-- K and the sizes, the cluster of client 2, and the priority of the row past N
+abbrev clustered : ℕ → List ℕ → ℕ → ℕ → Setup
+clustered n sizes home p = record {
+  clusters = n;
   clients = 4;
   cap = 10;
-  sizes = table 8 (λ (k : ℕ). cond (eqb k 0) m 0);
+  sizes = table 8 (λ (k : ℕ). getD sizes k 0);
   kinds = table 64 (λ (c : ℕ). cond (eqb c 3) 1 0);
-  homes = table 64 (λ (c : ℕ). 0);
+  homes = table 64 (λ (c : ℕ). cond (eqb c 2) home 0);
   priorities = table 64 (λ (c : ℕ). cond (ltb c 3) (suc c) (cond (eqb c 4) p 0));
 }
 
--- of setup v: line and room of cluster 0, the queues, the server with its units, and the charge of one client
-abbrev gate : Setup → List ℕ → ℕ → List ℕ → List ℕ → Server → ℕ → ℕ → ℕ → Gate
-gate v line room global background server units c charge = record {
+-- of one cluster: its size, and the priority of the row past N
+abbrev setup : ℕ → ℕ → Setup
+setup m p = clustered 1 (m ∷ []) 0 p
+
+abbrev line : List ℕ → List ℕ
+line l = pad 8 l
+
+abbrev queue : List ℕ → List ℕ
+queue l = pad 64 l
+
+-- of setup v: the first lines and rooms, the queues, the server with its units, and the charge of one client
+abbrev gateWith : Setup → List (List ℕ) → List ℕ → List ℕ → List ℕ → Server → ℕ → ℕ → ℕ → Gate
+gateWith v lines rooms global background server units c charge = record {
   setup = v;
-  lines = record { places = line } ∷ table 7 (λ (k : ℕ). record { places = pad 8 [] });
-  rooms = room ∷ table 7 (λ (k : ℕ). 0);
+  lines = table 8 (λ (k : ℕ). record { places = getD lines k (line []) });
+  rooms = table 8 (λ (k : ℕ). getD rooms k 0);
   global = global;
   background = background;
   server = server;
@@ -45,11 +57,10 @@ gate v line room global background server units c charge = record {
   charges = table 64 (λ (d : ℕ). cond (eqb d c) charge 0);
 }
 
-abbrev line : List ℕ → List ℕ
-line l = pad 8 l
-
-abbrev queue : List ℕ → List ℕ
-queue l = pad 64 l
+-- with the line and room of cluster 0 alone
+abbrev gate : Setup → List ℕ → ℕ → List ℕ → List ℕ → Server → ℕ → ℕ → ℕ → Gate
+gate v l room global background server units c charge =
+    gateWith v (l ∷ []) (room ∷ []) global background server units c charge
 
 -- client 2 is the front, 1 waits, 3 is served
 abbrev usual : Setup → List ℕ → ℕ → List ℕ → List ℕ → Gate
@@ -62,6 +73,15 @@ still server units c charge = gate (setup 1 0) (line []) 0 (line []) (queue []) 
 abbrev ok : Setup
 ok = setup 1 0
 
+-- two clusters, with client 2 in the second; 3 is served
+abbrev two : List (List ℕ) → List ℕ → List ℕ → Gate
+two lines rooms global = gateWith (clustered 2 (1 ∷ 1 ∷ []) 1 0) lines rooms global (queue []) (Best (client 3)) 10 1 30
+
+-- one cluster, and a line and a room past it; 3 is served
+abbrev past : List ℕ → ℕ → Gate
+past l room =
+    gateWith ok (line (2 ∷ []) ∷ l ∷ []) (0 ∷ room ∷ []) (line (2 ∷ [])) (queue []) (Best (client 3)) 10 1 30
+
 abbrev Tells : Gate → Bool → Type 0
 Tells g b = soundOf g ≡ b
 
@@ -70,27 +90,35 @@ sound-gates :
     × Tells (usual ok (line (2 ∷ [])) 2 (line (2 ∷ [])) (queue [])) true
     × Tells (gate ok (line (2 ∷ [])) 2 (line []) (queue (3 ∷ [])) (Front (client 2)) 10 1 30) true
     × Tells (gate ok (line (1 ∷ [])) 0 (line []) (queue (3 ∷ [])) (Spent (client 2)) 10 1 30) true
-    × Tells (still Idle 0 2 16777215) true
+    × Tells (still Idle 0 2 16777215) true × Tells (past (line []) 0) true
+    × Tells (two (line (0 ∷ []) ∷ line (2 ∷ []) ∷ []) (2 ∷ []) (line (0 ∷ 2 ∷ []))) true
 unfolding setupAnswer member setOf pad unpad usedFirst blank stateOf shown table every allBelow zeros distinct joined
-    setIn firstIn soundOf setupSound rowsPast laid lineSound linesSound backgroundSound roomSound roomsSound
+    setIn firstIn soundOf setupSound isTrimmed laid lineSound linesSound backgroundSound roomSound roomsSound
     globalSound chargesSound standSound restSound
-sound-gates = (refl, refl, refl, refl, refl)
+sound-gates = (refl, refl, refl, refl, refl, refl, refl)
 
 unsound-gates :
-    -- the setup: a size of 0, and a row past N that is not zero
+    -- the setup: a size of 0; a row past N, and a size past K, that is not zero
     Tells (shown (setup 0 0) fresh) false × Tells (shown (setup 1 7) fresh) false
-    -- a gap in a line; a number past N; a line longer than m; a best-effort client in a line
+    × Tells (shown (clustered 1 (1 ∷ 1 ∷ []) 0 0) fresh) false
+    -- a line of nine places; a gap in a line; a number past N; a line longer than m; a best-effort client in a line;
+    -- a client of another cluster; a line past K
     × Tells (usual ok (255 ∷ line []) 0 (line []) (queue [])) false
     × Tells (usual ok (line (255 ∷ 2 ∷ [])) 0 (line []) (queue [])) false
     × Tells (usual ok (line (4 ∷ [])) 0 (line (4 ∷ [])) (queue [])) false
     × Tells (usual ok (line (2 ∷ 1 ∷ [])) 0 (line (2 ∷ [])) (queue [])) false
     × Tells (gate ok (line (3 ∷ [])) 0 (line []) (queue []) (Front (client 3)) 0 1 30) false
+    × Tells (two (line (2 ∷ []) ∷ []) [] (line [])) false × Tells (past (line (1 ∷ [])) 0) false
     -- a real-time client in the background queue; a room not empty while the line is not full
     × Tells (usual ok (line (2 ∷ [])) 0 (line (2 ∷ [])) (queue (1 ∷ []))) false
     × Tells (usual (setup 2 0) (line (2 ∷ [])) 2 (line (2 ∷ [])) (queue [])) false
-    -- in a line and a room; twice in the background queue; in it and served
+    -- in a room: a number past N; a client of another cluster; a client where there is no cluster
+    × Tells (usual ok (line (2 ∷ [])) 16 (line (2 ∷ [])) (queue [])) false
+    × Tells (two (line (0 ∷ []) ∷ []) (4 ∷ []) (line (0 ∷ []))) false × Tells (past (line []) 2) false
+    -- in a line and a room; twice in a line; twice in the background queue; in it and served
     × Tells (usual ok (line (2 ∷ [])) 4 (line (2 ∷ [])) (queue [])) false
     × Tells (usual (setup 2 0) (line (2 ∷ 2 ∷ [])) 0 (line (2 ∷ [])) (queue [])) false
+    × Tells (gate ok (line (2 ∷ [])) 2 (line []) (queue (3 ∷ 3 ∷ [])) (Front (client 2)) 10 1 30) false
     × Tells (usual ok (line (2 ∷ [])) 2 (line (2 ∷ [])) (queue (3 ∷ []))) false
     -- a front missing in the global queue, or there twice; one who is no front
     × Tells (usual ok (line (2 ∷ [])) 2 (line []) (queue [])) false
@@ -108,9 +136,16 @@ unsound-gates :
     × Tells (still (Best (client 3)) 11 1 30) false × Tells (still Idle 0 2 16777216) false
     × Tells (still Idle 0 3 1) false × Tells (still Idle 0 4 1) false
 unfolding setupAnswer member setOf pad unpad usedFirst blank stateOf shown table every allBelow zeros distinct joined
-    setIn firstIn soundOf setupSound rowsPast laid lineSound linesSound backgroundSound roomSound roomsSound
+    setIn firstIn soundOf setupSound isTrimmed laid lineSound linesSound backgroundSound roomSound roomsSound
     globalSound chargesSound standSound restSound
 unsound-gates = (
+  refl,
+  refl,
+  refl,
+  refl,
+  refl,
+  refl,
+  refl,
   refl,
   refl,
   refl,

@@ -10,7 +10,7 @@ use Rattle.rules.specs.Refusals.{accepted}
 use Rattle.rules.specs.Setup.{setupAnswer, Accepted, Trimmed}
 use Rattle.rules.specs.State.{State, fresh}
 use Rattle.rules.specs.Sound.{Sound}
-use Rattle.rules.proofs.Tests.{by-test, and-true}
+use Rattle.rules.proofs.Tests.{by-test, both-true}
 use Rattle.gate.specs.declared.Setup.{Setup}
 use Rattle.gate.specs.declared.Gate.{Gate}
 use Rattle.gate.specs.Shown.{setupOf, stateOf, shown}
@@ -35,9 +35,9 @@ module _ (g : Gate) (e : soundOf g ≡ true) where
   passed =
       let u = setupOf (g .setup) in
       let all = everyone (stateOf g .lines) (stateOf g .background) in
-      let w = and-true (setupSound (g .setup)) _ e in
+      let w = both-true (setupSound (g .setup)) _ e in
       let stand = standSound u (g .lines) (g .background) all in
-      let x = and-true stand (restSound u g (stateOf g) (setIn all)) (w .1) in
+      let x = both-true stand (restSound u g (stateOf g) (setIn all)) (w .1) in
       record {
         setup = setup-facts (g .setup) (w .0);
         state = clauses u g (stateOf g) all (x .0) (x .1);

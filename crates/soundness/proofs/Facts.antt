@@ -13,7 +13,7 @@ use Rattle.rules.specs.Refusals.{accepted}
 use Rattle.rules.specs.Setup as rules
 use Rattle.rules.specs.Setup.{realTime, setupAnswer, Accepted, Trimmed}
 use Rattle.rules.specs.State.{State}
-use Rattle.rules.proofs.Tests.{by-test, clash, or-true, and-true}
+use Rattle.rules.proofs.Tests.{by-test, clash, either-true, both-true}
 use Rattle.sets.specs.Sets.{member}
 use Rattle.sets.proofs.Bits.{member-past, member-none}
 use Rattle.places.specs.Places.{unpad, usedFirst}
@@ -21,7 +21,7 @@ use Rattle.gate.specs.declared.Setup.{Setup}
 use Rattle.gate.specs.declared.Gate.{Gate}
 use Rattle.gate.specs.Shown.{setupOf}
 use Rattle.soundness.specs.Tests.{every, allBelow, zeros, distinct, setIn}
-use Rattle.soundness.specs.Clauses.{zeroPast, setupSound, laid, isReal, ofCluster, lineSound, linesSound}
+use Rattle.soundness.specs.Clauses.{isTrimmed, setupSound, laid, isReal, ofCluster, lineSound, linesSound}
 use Rattle.soundness.specs.Clauses.{backgroundSound, roomSound, roomsSound, globalSound, serverSound}
 use Rattle.soundness.specs.Clauses.{chargesSound, standSound, restSound}
 use Rattle.soundness.proofs.Tests.{every-has, all-at, zeros-past, past-zeros}
@@ -43,12 +43,12 @@ module _ (u : rules.Setup) (g : Gate) (s : State) (all : List ℕ) where
       → Clauses u g s all
   unfolding standSound restSound
   clauses e q =
-      let a = and-true (linesSound u (g .lines)) (backgroundSound u (g .background) && distinct all) e in
-      let b = and-true (backgroundSound u (g .background)) (distinct all) (a .1) in
-      let d = and-true (roomsSound u (setIn all) (s .lines) (g .rooms)) _ q in
-      let f = and-true (globalSound u s (g .global)) _ (d .1) in
-      let h = and-true (serverSound u (setIn all) s (s .server)) _ (f .1) in
-      let i = and-true (leb (s .units) (u .cap)) (chargesSound u (g .charges)) (h .1) in
+      let a = both-true (linesSound u (g .lines)) (backgroundSound u (g .background) && distinct all) e in
+      let b = both-true (backgroundSound u (g .background)) (distinct all) (a .1) in
+      let d = both-true (roomsSound u (setIn all) (s .lines) (g .rooms)) _ q in
+      let f = both-true (globalSound u s (g .global)) _ (d .1) in
+      let h = both-true (serverSound u (setIn all) s (s .server)) _ (f .1) in
+      let i = both-true (leb (s .units) (u .cap)) (chargesSound u (g .charges)) (h .1) in
       record {
         lines = a .0;
         background = b .0;
@@ -72,14 +72,14 @@ module _ (u : rules.Setup) (g : Gate) (s : State) (all : List ℕ) where
 
 module _ (v : Setup) where
   pub setup-facts : setupSound v ≡ true → Accepted (setupOf v) × Trimmed (setupOf v)
-  unfolding setupSound zeroPast
+  unfolding setupSound isTrimmed
   setup-facts e =
       let answered : Bool = eqb (setupAnswer (setupOf v)) accepted in
-      let a = and-true (answered && leb (v .cap) maxCap) (zeroPast v) e in
-      let b = and-true answered (leb (v .cap) maxCap) (a .0) in
-      let c = and-true (zeros (drop (v .clusters) (v .sizes))) _ (a .1) in
-      let d = and-true (zeros (drop (v .clients) (v .kinds))) _ (c .1) in
-      let f = and-true (zeros (drop (v .clients) (v .homes))) (zeros (drop (v .clients) (v .priorities))) (d .1) in (
+      let a = both-true (answered && leb (v .cap) maxCap) (isTrimmed v) e in
+      let b = both-true answered (leb (v .cap) maxCap) (a .0) in
+      let c = both-true (zeros (drop (v .clusters) (v .sizes))) _ (a .1) in
+      let d = both-true (zeros (drop (v .clients) (v .kinds))) _ (c .1) in
+      let f = both-true (zeros (drop (v .clients) (v .homes))) (zeros (drop (v .clients) (v .priorities))) (d .1) in (
         record {
           no-refusal = eqb-true (setupAnswer (setupOf v)) accepted (b .0);
           sixteen-bits = leb-true (v .cap) maxCap (b .1);
@@ -93,7 +93,7 @@ module _ (v : Setup) where
       )
 
   pub facts-setup : Accepted (setupOf v) → Trimmed (setupOf v) → setupSound v ≡ true
-  unfolding setupSound zeroPast
+  unfolding setupSound isTrimmed
   facts-setup a t =
       rw (
         a .no-refusal,
@@ -109,7 +109,7 @@ module _ (v : Setup) where
 pub laid-facts : (n : ℕ) (q : List ℕ) → laid n q ≡ true → (length q ≡ n) × (usedFirst q ≡ true)
 unfolding laid
 laid-facts n q e =
-    let w = and-true (eqb (length q) n) (usedFirst q) e in (eqb-true (length q) n (w .0), w .1)
+    let w = both-true (eqb (length q) n) (usedFirst q) e in (eqb-true (length q) n (w .0), w .1)
 
 pub facts-laid : (n : ℕ) (q : List ℕ) → length q ≡ n → usedFirst q ≡ true → laid n q ≡ true
 unfolding laid
@@ -123,8 +123,8 @@ module _ (u : rules.Setup) where
 
   pub of-cluster : (k c : ℕ) → ofCluster u k c ≡ true → OfCluster k c
   of-cluster k c e =
-      let a = and-true (isReal u c) (eqb (u .cluster c) k) e in
-      let b = and-true (ltb c (u .clients)) (realTime u c) (a .0) in
+      let a = both-true (isReal u c) (eqb (u .cluster c) k) e in
+      let b = both-true (ltb c (u .clients)) (realTime u c) (a .0) in
       record {
         known = ltb-true c (u .clients) (b .0);
         real = b .1;
@@ -144,8 +144,8 @@ module _ (u : rules.Setup) where
   pub line-facts : (k : ℕ) (q : List ℕ) → lineSound u k q ≡ true → LineFacts k q
   unfolding lineSound
   line-facts k q e =
-      let a = and-true (laid maxSize q) _ e in
-      let b = and-true (leb (length (unpad q)) (u .size k)) (every (ofCluster u k) (unpad q)) (a .1) in
+      let a = both-true (laid maxSize q) _ e in
+      let b = both-true (leb (length (unpad q)) (u .size k)) (every (ofCluster u k) (unpad q)) (a .1) in
       let l = laid-facts maxSize q (a .0) in
       record {
         size = l .0;
@@ -166,13 +166,13 @@ module _ (u : rules.Setup) where
   unfolding roomSound
   room-facts standing k line x e =
       let owned : ℕ → Bool = λ c. not (member x c) || (ofCluster u k c && not (member standing c)) in
-      let a = and-true (ltb x (2 ^ u .clients)) _ e in
-      let b = and-true (allBelow (u .clients) owned) (eqb x 0 || leb (u .size k) (length line)) (a .1) in
+      let a = both-true (ltb x (2 ^ u .clients)) _ e in
+      let b = both-true (allBelow (u .clients) owned) (eqb x 0 || leb (u .size k) (length line)) (a .1) in
       let below : x < 2 ^ u .clients = ltb-true x (2 ^ u .clients) (a .0) in
       record {
         below = below;
         own = λ c m. own c m (all-at (u .clients) owned (b .0) c (inside c below m));
-        full = λ c m. or-true (eqb x 0) (leb (u .size k) (length line)) (b .1)
+        full = λ c m. either-true (eqb x 0) (leb (u .size k) (length line)) (b .1)
             (λ q. clash m (rw (eqb-true x 0 q) (member-none c)))
             (λ q. leb-true (u .size k) (length line) q);
       }
@@ -185,5 +185,5 @@ module _ (u : rules.Setup) where
       own : (c : ℕ) → member x c ≡ true → not (member x c) || (ofCluster u k c && not (member standing c)) ≡ true
           → OfCluster k c × (member standing c ≡ false)
       own c m q =
-          let w = and-true (ofCluster u k c) (not (member standing c)) (rw m at q) in
+          let w = both-true (ofCluster u k c) (not (member standing c)) (rw m at q) in
           (of-cluster k c (w .0), not-true (member standing c) (w .1))

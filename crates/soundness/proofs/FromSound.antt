@@ -2,25 +2,24 @@
 -- Assumes nothing.
 use Prim.Native.Nat.{ℕ, _^_, _≤_, _<_}
 use mathlib.Core.Path.{_≡_, refl, sym, _∙_}
-use mathlib.Core.Bool.{Bool, true, false, not, _&&_, _||_}
+use mathlib.Core.Bool.{true, false, not, _&&_, _||_, or-true, not-or-self}
 use mathlib.Core.List.{List, [], _∷_}
-use native.Mathlib.Nat.{lt-of-lt-of-le}
 use native.Mathlib.Omega.{arith}
 use lib.Dec.{eqb, ltb, leb}
 use lib.ListN.{length}
-use lib.Pow.{pow-mono}
-use borrow.Author.Tests.{eqb-true, eq-eqb, ltb-true, ltb-false, lt-ltb, le-leb}
+use borrow.Author.Tests.{eqb-true, eq-eqb, ltb-false, lt-ltb, le-leb}
 use Rattle.rules.specs.Limits.{maxClusters, maxClients, maxCharge}
 use Rattle.rules.specs.Lists.{has, heads}
 use Rattle.rules.specs.Setup as rules
 use Rattle.rules.specs.Setup.{realTime}
 use Rattle.rules.specs.State as state
 use Rattle.rules.specs.State.{State, idle, front, best, spent}
+use Rattle.rules.specs.Queues.{inRoom}
 use Rattle.rules.specs.Sound.{Sound, ServerSound, queued}
-use Rattle.rules.proofs.Tests.{by-test, clash, not-so, and-true}
+use Rattle.rules.proofs.Tests.{by-test, clash, not-so, both-true}
 use Rattle.rules.proofs.Lists.{heads-has}
 use Rattle.sets.specs.Sets.{member, setOf}
-use Rattle.sets.proofs.Laws.{setOf-below, member-setOf, member-setOf-past, is-setOf, setOf-none}
+use Rattle.sets.proofs.Laws.{setOf-below, setOf-cut, member-setOf, setOf-none}
 use Rattle.places.specs.Places.{pad}
 use Rattle.gate.specs.declared.Setup.{Setup}
 use Rattle.gate.specs.Shown.{setupOf, showRooms, table, shown}
@@ -35,14 +34,6 @@ use Rattle.soundness.proofs.Sets.{set-has}
 use Rattle.soundness.proofs.Facts.{Clauses, in-cluster}
 use Rattle.soundness.proofs.ShownStands as stands
 use Rattle.soundness.proofs.ShownStands.{held}
-
--- a set with no member from n on is a word of n bits
-word-below : (n m : ℕ) (p : ℕ → Bool) → n ≤ m → ((j : ℕ) → n ≤ j → p j ≡ false) → setOf m p < 2 ^ n
-word-below n m p h none =
-    rw (sym (is-setOf m (setOf n p) p (lt-of-lt-of-le (setOf-below n p) (pow-mono h)) (λ j b. by-test (ltb j n)
-    (λ e. member-setOf n p j (ltb-true j n e))
-    (λ e. member-setOf-past n p j (ltb-false j n e) ∙ sym (none j (ltb-false j n e))))))
-    (setOf-below n p)
 
 module _ (v : Setup) (s : State) (h : Sound (setupOf v) s) where
   abbrev u : rules.Setup
@@ -63,32 +54,30 @@ module _ (v : Setup) (s : State) (h : Sound (setupOf v) s) where
 
   -- ROOMS
 
-  abbrev inRoom : ℕ → ℕ → Bool
-  inRoom k c = s .room c && eqb (u .cluster c) k
-
-  in-room : (k c : ℕ) → inRoom k c ≡ true → (s .room c ≡ true) × (u .cluster c ≡ k)
+  in-room : (k c : ℕ) → inRoom u s k c ≡ true → (s .room c ≡ true) × (u .cluster c ≡ k)
   in-room k c e =
-      let w = and-true (s .room c) (eqb (u .cluster c) k) e in (w .0, eqb-true (u .cluster c) k (w .1))
+      let w = both-true (s .room c) (eqb (u .cluster c) k) e in (w .0, eqb-true (u .cluster c) k (w .1))
 
-  room-pass : (k : ℕ) → roomSound u (setIn all) k (s .lines k) (setOf maxClients (inRoom k)) ≡ true
+  room-pass : (k : ℕ) → roomSound u (setIn all) k (s .lines k) (setOf maxClients (inRoom u s k)) ≡ true
   unfolding roomSound
   room-pass k =
-      rw (lt-ltb (setOf maxClients (inRoom k)) (2 ^ u .clients) below)
+      rw (lt-ltb (setOf maxClients (inRoom u s k)) (2 ^ u .clients) below)
       (and-both _ _ (at-all (u .clients) _ (λ c b. owned c b)) full)
     where
       few : u .clients ≤ maxClients
       few = fits .fine .clients
 
-      below : setOf maxClients (inRoom k) < 2 ^ u .clients
+      below : setOf maxClients (inRoom u s k) < 2 ^ u .clients
       below =
-          word-below (u .clients) maxClients (inRoom k) few (λ j b.
-          not-so (inRoom k j) (λ e. omega (arith, h .room j (in-room k j e .0) .known)))
+          rw (← setOf-cut (u .clients) maxClients (inRoom u s k) (inRoom u s k) few (λ j b. refl) (λ j b past.
+          not-so (inRoom u s k j) (λ e. omega (arith, h .room j (in-room k j e .0) .known))))
+          (setOf-below (u .clients) (inRoom u s k))
 
       owned : (c : ℕ) → c < u .clients
-          → not (member (setOf maxClients (inRoom k)) c) || (ofCluster u k c && not (member (setIn all) c)) ≡ true
+          → not (member (setOf maxClients (inRoom u s k)) c) || (ofCluster u k c && not (member (setIn all) c)) ≡ true
       owned c b =
-          rw (member-setOf maxClients (inRoom k) c (omega (arith, few)))
-          (by-test (inRoom k c)
+          rw (member-setOf maxClients (inRoom u s k) c (omega (arith, few)))
+          (by-test (inRoom u s k c)
           (λ e.
           let w = in-room k c e in
           let r = h .room c (w .0) in
@@ -99,31 +88,27 @@ module _ (v : Setup) (s : State) (h : Sound (setupOf v) s) where
           ))
           (λ e. rw e))
 
-      full : eqb (setOf maxClients (inRoom k)) 0 || leb (u .size k) (length (s .lines k)) ≡ true
+      full : eqb (setOf maxClients (inRoom u s k)) 0 || leb (u .size k) (length (s .lines k)) ≡ true
       full =
           by-test (leb (u .size k) (length (s .lines k)))
-          (λ e. rw e (or-last (eqb (setOf maxClients (inRoom k)) 0)))
-          (λ e. rw (setOf-none maxClients (inRoom k) (λ c b. not-so (inRoom k c) (λ q.
+          (λ e. rw e (or-true (eqb (setOf maxClients (inRoom u s k)) 0)))
+          (λ e. rw (setOf-none maxClients (inRoom u s k) (λ c b. not-so (inRoom u s k c) (λ q.
           let w = in-room k c q in
           clash (le-leb (u .size k) (length (s .lines k)) (rw (w .1) at (h .full c (w .0)))) e))))
-        where
-          or-last : (b : Bool) → b || true ≡ true
-          or-last true = refl
-          or-last false = refl
 
   rooms-pass : roomsSound u (setIn all) (s .lines) (showRooms (u .cluster) (s .room)) ≡ true
   unfolding roomsSound
   rooms-pass =
-      rw (length-table maxClusters (λ k. setOf maxClients (inRoom k)))
+      rw (length-table maxClusters (λ k. setOf maxClients (inRoom u s k)))
       (at-all maxClusters _ (λ k b.
-      rw (table-at maxClusters (λ j. setOf maxClients (inRoom j)) k 0 b) (room-pass k)))
+      rw (table-at maxClusters (λ j. setOf maxClients (inRoom u s j)) k 0 b) (room-pass k)))
 
   -- THE GLOBAL QUEUE
 
   front-known : (c : ℕ) → queued u s c ≡ true → c < u .clients
   front-known c e =
       h .lines (u .cluster c) .known c (heads-has c (s .lines (u .cluster c))
-      (and-true (heads c (s .lines (u .cluster c))) _ (and-true (heads c (s .lines (u .cluster c)) && _) _ e .0) .0))
+      (both-true (heads c (s .lines (u .cluster c))) _ (both-true (heads c (s .lines (u .cluster c)) && _) _ e .0) .0))
 
   global-pass : globalSound u s (pad maxClusters (s .global)) ≡ true
   unfolding globalSound firstIn
@@ -138,13 +123,9 @@ module _ (v : Setup) (s : State) (h : Sound (setupOf v) s) where
         is-distinct (s .global) (h .global-once),
       ) (at-all (u .clusters) _ (λ k b. each (s .lines k)))
     where
-      implied : (b : Bool) → not b || b ≡ true
-      implied true = refl
-      implied false = refl
-
       each : (l : List ℕ) → firstIn (queued u s) (setIn (s .global)) l ≡ true
       each [] = refl
-      each (x ∷ l) = rw (set-has (s .global) (fits .global-fits .used) x, h .global x) (implied (queued u s x))
+      each (x ∷ l) = rw (set-has (s .global) (fits .global-fits .used) x, h .global x) (not-or-self (queued u s x))
 
   -- THE SERVER
 

@@ -8,7 +8,7 @@ use native.Mathlib.Omega.{arith}
 use lib.Dec.{eqb}
 use borrow.Author.Tests.{eqb-true, eqb-false}
 use Rattle.rules.specs.Lists.{has, Distinct}
-use Rattle.rules.proofs.Tests.{by-test, clash, not-so, or-true, or-false}
+use Rattle.rules.proofs.Tests.{by-test, clash, not-so, either-true, both-false}
 use Rattle.rules.proofs.Lists.{has-head, has-tail, has-append, distinct-right}
 use Rattle.soundness.specs.Tests.{joined}
 
@@ -21,7 +21,7 @@ pub has-right : (x : ℕ) (s t : List ℕ) → has x t ≡ true → has x (s ++ 
 has-right x s t h = rw (has-append x s t, h) (by-test (has x s) (λ e. rw e) (λ e. rw e))
 
 pub not-appended : (x : ℕ) (s t : List ℕ) → has x (s ++ t) ≡ false → (has x s ≡ false) × (has x t ≡ false)
-not-appended x s t h = or-false (has x s) (has x t) (rw has-append at h)
+not-appended x s t h = both-false (has x s) (has x t) (rw has-append at h)
 
 pub distinct-left : (s t : List ℕ) → Distinct (s ++ t) → Distinct s
 distinct-left [] t h = tt
@@ -31,7 +31,7 @@ pub distinct-append : (s t : List ℕ) → Distinct s → Distinct t
     → ((x : ℕ) → has x s ≡ true → has x t ≡ true → ⊥) → Distinct (s ++ t)
 distinct-append [] t a b h = b
 distinct-append (x ∷ s) t a b h = (
-  not-so (has x (s ++ t)) (λ e. or-true (has x s) (has x t) (rw has-append at e)
+  not-so (has x (s ++ t)) (λ e. either-true (has x s) (has x t) (rw has-append at e)
       (λ p. clash p (a .0)) (λ p. h x (has-head x s) p)),
   distinct-append s t (a .1) b (λ y p q. h y (has-tail y x s p) q),
 )
@@ -44,7 +44,7 @@ module _ (f : ℕ → List ℕ) where
   unfolding joined
   joined-has k zero x h g = clash h refl
   joined-has k (suc n) x h g =
-      or-true (has x (f k)) (has x (joined f (suc k) n)) (rw has-append at h)
+      either-true (has x (f k)) (has x (joined f (suc k) n)) (rw has-append at h)
       (λ e. g k (omega arith) (omega arith) e)
       (λ e. joined-has (suc k) n x e (λ j a b i. g j (omega arith) (omega arith) i))
 

@@ -13,7 +13,7 @@ use Rattle.rules.specs.Setup as rules
 use Rattle.rules.specs.Setup.{realTime}
 use Rattle.rules.specs.State.{State}
 use Rattle.rules.specs.Sound.{Sound}
-use Rattle.rules.proofs.Tests.{clash, not-so, or-true}
+use Rattle.rules.proofs.Tests.{clash, not-so, either-true}
 use Rattle.rules.proofs.Lists.{has-append}
 use Rattle.sets.specs.Sets.{member}
 use Rattle.places.specs.Places.{pad, unpad}
@@ -90,7 +90,7 @@ module _ (v : Setup) (s : State) (h : Sound (setupOf v) s) where
   pub not-there : (c : ℕ) → has c (s .lines (u .cluster c)) ≡ false → has c (s .background) ≡ false
       → has c all ≡ false
   not-there c a b =
-      not-so (has c all) (λ e. or-true (has c (joined (s .lines) 0 maxClusters)) (has c (s .background))
+      not-so (has c all) (λ e. either-true (has c (joined (s .lines) 0 maxClusters)) (has c (s .background))
       (rw has-append at e)
       (λ q. joined-has (s .lines) 0 maxClusters c q (λ j x y i.
       clash i (rw (h .lines j .home c i) at a)))
@@ -99,7 +99,7 @@ module _ (v : Setup) (s : State) (h : Sound (setupOf v) s) where
   -- the set of everyone has everyone
   in-set : (c : ℕ) → member (setIn all) c ≡ has c all
   in-set =
-      set-has all (λ c e. or-true (has c (joined (s .lines) 0 maxClusters)) (has c (s .background))
+      set-has all (λ c e. either-true (has c (joined (s .lines) 0 maxClusters)) (has c (s .background))
       (rw has-append at e)
       (λ q. joined-has (s .lines) 0 maxClusters c q (λ j x y i. fits .line-fits j .used c i))
       (λ q. fits .background-fits .used c q))

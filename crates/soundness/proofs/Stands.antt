@@ -14,7 +14,7 @@ use Rattle.rules.specs.Setup as rules
 use Rattle.rules.specs.Setup.{realTime, Accepted, Trimmed}
 use Rattle.rules.specs.State.{State}
 use Rattle.rules.specs.Sound.{LineSound, BackgroundSound, ChargeSound}
-use Rattle.rules.proofs.Tests.{by-test, clash, not-so, or-true, and-true}
+use Rattle.rules.proofs.Tests.{by-test, clash, not-so, either-true, both-true}
 use Rattle.rules.proofs.Lists.{has-append, no-first, distinct-right}
 use Rattle.rules.proofs.Setups.{Allowed, allowed}
 use Rattle.sets.specs.Sets.{member}
@@ -57,7 +57,7 @@ module _ (g : Gate) (a : Accepted (setupOf (g .setup))) (t : Trimmed (setupOf (g
   unfolding linesSound
   eight =
       let test : ℕ → Bool = λ k. lineSound u k (getD (g .lines) k blankLine .places) in
-      let w = and-true (eqb (length (g .lines)) maxClusters) (allBelow maxClusters test) (c .lines) in (
+      let w = both-true (eqb (length (g .lines)) maxClusters) (allBelow maxClusters test) (c .lines) in (
         eqb-true (length (g .lines)) maxClusters (w .0),
         λ k b. line-facts u k (getD (g .lines) k blankLine .places) (all-at maxClusters test (w .1) k b),
       )
@@ -116,10 +116,10 @@ module _ (g : Gate) (a : Accepted (setupOf (g .setup))) (t : Trimmed (setupOf (g
   pub background-facts : (laid maxClients (g .background) ≡ true) × BackgroundSound u (s .background)
   unfolding backgroundSound stateOf
   background-facts =
-      let x = and-true (laid maxClients (g .background)) (every (ofBackground u) (s .background)) (c .background) in
+      let x = both-true (laid maxClients (g .background)) (every (ofBackground u) (s .background)) (c .background) in
       let each : (d : ℕ) → has d (s .background) ≡ true
       → (ltb d (u .clients) ≡ true) × (not (realTime u d) ≡ true) =
-      λ d h. and-true (ltb d (u .clients)) (not (realTime u d))
+      λ d h. both-true (ltb d (u .clients)) (not (realTime u d))
       (every-has (ofBackground u) (s .background) d (x .1) h) in (
         x .0,
         record {
@@ -132,7 +132,7 @@ module _ (g : Gate) (a : Accepted (setupOf (g .setup))) (t : Trimmed (setupOf (g
   -- the set of everyone has everyone
   pub in-set : (d : ℕ) → member (setIn all) d ≡ has d all
   in-set =
-      set-has all (λ d e. or-true (has d standing) (has d (s .background)) (rw has-append at e)
+      set-has all (λ d e. either-true (has d standing) (has d (s .background)) (rw has-append at e)
       (λ q. joined-has (s .lines) 0 maxClusters d q (λ j x y i. omega (arith, line j .known d i, ok .few-clients)))
       (λ q. omega (arith, background-facts .1 .known d q, ok .few-clients)))
 
@@ -142,7 +142,7 @@ module _ (g : Gate) (a : Accepted (setupOf (g .setup))) (t : Trimmed (setupOf (g
   unfolding chargesSound stateOf
   charge-facts =
       let test : ℕ → Bool = λ d. chargeSound u d (s .charge d) in
-      let w = and-true (eqb (length (g .charges)) maxClients) (allBelow maxClients test) (c .charges) in
+      let w = both-true (eqb (length (g .charges)) maxClients) (allBelow maxClients test) (c .charges) in
       let l = eqb-true (length (g .charges)) maxClients (w .0) in (
         l,
         λ d. by-test (ltb d maxClients)
@@ -153,12 +153,12 @@ module _ (g : Gate) (a : Accepted (setupOf (g .setup))) (t : Trimmed (setupOf (g
     where
       one : (d : ℕ) → chargeSound u d (s .charge d) ≡ true → ChargeSound u (s .charge d) d
       one d e =
-          let w = and-true (leb (s .charge d) maxCharge) (isReal u d || eqb (s .charge d) 0) e in
+          let w = both-true (leb (s .charge d) maxCharge) (isReal u d || eqb (s .charge d) 0) e in
           let zero-unless : ((ltb d (u .clients) && realTime u d) ≡ false) → s .charge d ≡ 0 =
           λ n. eqb-true (s .charge d) 0 (rw n at (w .1)) in
           record {
             effort = λ r. zero-unless (not-so (ltb d (u .clients) && realTime u d) (λ q.
-                clash (and-true (ltb d (u .clients)) (realTime u d) q .1) r));
+                clash (both-true (ltb d (u .clients)) (realTime u d) q .1) r));
             past = λ b. zero-unless (rw (le-ltb d (u .clients) b));
             limit = leb-true (s .charge d) maxCharge (w .0);
           }

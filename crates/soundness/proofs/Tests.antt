@@ -9,7 +9,7 @@ use lib.Dec.{eqb}
 use lib.ListN.{getD, drop}
 use borrow.Author.Tests.{eqb-true, eqb-false, eq-eqb, not-true}
 use Rattle.rules.specs.Lists.{has, Distinct}
-use Rattle.rules.proofs.Tests.{by-test, clash, or-true, and-true}
+use Rattle.rules.proofs.Tests.{by-test, clash, either-true, both-true}
 use Rattle.rules.proofs.Lists.{has-head, has-tail}
 use Rattle.soundness.specs.Tests.{every, allBelow, zeros, distinct}
 
@@ -22,8 +22,8 @@ pub every-has : (p : ℕ → Bool) (l : List ℕ) (x : ℕ) → every p l ≡ tr
 unfolding every
 every-has p [] x e h = clash h refl
 every-has p (y ∷ l) x e h =
-    let w = and-true (p y) (every p l) e in
-    or-true (eqb y x) (has x l) h (λ f. rw (← eqb-true y x f) (w .0)) (λ f. every-has p l x (w .1) f)
+    let w = both-true (p y) (every p l) e in
+    either-true (eqb y x) (has x l) h (λ f. rw (← eqb-true y x f) (w .0)) (λ f. every-has p l x (w .1) f)
 
 pub has-every : (p : ℕ → Bool) (l : List ℕ) → ((x : ℕ) → has x l ≡ true → p x ≡ true) → every p l ≡ true
 unfolding every
@@ -37,7 +37,7 @@ pub all-at : (n : ℕ) (p : ℕ → Bool) → allBelow n p ≡ true → (i : ℕ
 unfolding allBelow
 all-at zero p e i h = absurd (omega arith)
 all-at (suc n) p e i h =
-    let w = and-true (p n) (allBelow n p) e in
+    let w = both-true (p n) (allBelow n p) e in
     by-test (eqb i n)
     (λ q. rw (eqb-true i n q) (w .0))
     (λ q. all-at n p (w .1) i (omega (arith, eqb-false i n q)))
@@ -52,8 +52,8 @@ at-all (suc n) p h = and-both (p n) (allBelow n p) (h n (omega arith)) (at-all n
 pub zeros-past : (n : ℕ) (q : List ℕ) → zeros (drop n q) ≡ true → (i : ℕ) → n ≤ i → getD q i 0 ≡ 0
 unfolding zeros
 zeros-past n [] e i h = refl
-zeros-past zero (x ∷ q) e zero h = eqb-true x 0 (and-true (eqb x 0) (zeros q) e .0)
-zeros-past zero (x ∷ q) e (suc i) h = zeros-past zero q (and-true (eqb x 0) (zeros q) e .1) i (omega arith)
+zeros-past zero (x ∷ q) e zero h = eqb-true x 0 (both-true (eqb x 0) (zeros q) e .0)
+zeros-past zero (x ∷ q) e (suc i) h = zeros-past zero q (both-true (eqb x 0) (zeros q) e .1) i (omega arith)
 zeros-past (suc n) (x ∷ q) e zero h = absurd (omega arith)
 zeros-past (suc n) (x ∷ q) e (suc i) h = zeros-past n q e i (omega arith)
 
@@ -71,7 +71,7 @@ pub distinct-is : (l : List ℕ) → distinct l ≡ true → Distinct l
 unfolding distinct
 distinct-is [] e = tt
 distinct-is (x ∷ l) e =
-    let w = and-true (not (has x l)) (distinct l) e in (not-true (has x l) (w .0), distinct-is l (w .1))
+    let w = both-true (not (has x l)) (distinct l) e in (not-true (has x l) (w .0), distinct-is l (w .1))
 
 pub is-distinct : (l : List ℕ) → Distinct l → distinct l ≡ true
 unfolding distinct

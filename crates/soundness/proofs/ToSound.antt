@@ -17,7 +17,7 @@ use Rattle.rules.specs.Setup.{realTime, Accepted, Trimmed}
 use Rattle.rules.specs.State as state
 use Rattle.rules.specs.State.{State, idle, front, best, spent}
 use Rattle.rules.specs.Sound.{Sound, LineSound, RoomSound, ServerSound, queued}
-use Rattle.rules.proofs.Tests.{by-test, clash, not-so, and-true, same-test}
+use Rattle.rules.proofs.Tests.{by-test, clash, not-so, both-true, same-test}
 use Rattle.rules.proofs.Lists.{has-none, heads-has, heads-cons}
 use Rattle.rules.proofs.Setups.{Allowed}
 use Rattle.sets.specs.Sets.{member}
@@ -70,14 +70,14 @@ module _ (g : Gate) (a : Accepted (setupOf (g .setup))) (t : Trimmed (setupOf (g
   unfolding roomsSound
   eight-rooms =
       let test : ℕ → Bool = λ k. roomSound u (setIn all) k (s .lines k) (getD (g .rooms) k 0) in
-      let w = and-true (eqb (length (g .rooms)) maxClusters) (allBelow maxClusters test) (c .rooms) in (
+      let w = both-true (eqb (length (g .rooms)) maxClusters) (allBelow maxClusters test) (c .rooms) in (
         eqb-true (length (g .rooms)) maxClusters (w .0),
         λ k b. room-facts u (setIn all) k (s .lines k) (getD (g .rooms) k 0) (all-at maxClusters test (w .1) k b),
       )
 
   in-room : (d : ℕ) → s .room d ≡ true → member (getD (g .rooms) (u .cluster d) 0) d ≡ true
   unfolding stateOf
-  in-room d r = and-true (ltb d maxClients) (member (getD (g .rooms) (u .cluster d) 0) d) r .1
+  in-room d r = both-true (ltb d maxClients) (member (getD (g .rooms) (u .cluster d) 0) d) r .1
 
   room : (d : ℕ) → s .room d ≡ true → RoomSound u (s .lines) d
   room d r =
@@ -101,15 +101,15 @@ module _ (g : Gate) (a : Accepted (setupOf (g .setup))) (t : Trimmed (setupOf (g
   global-facts =
       let test : ℕ → Bool = λ d. ltb d (u .clients) && queued u s d in
       let in-queue : ℕ → Bool = λ k. firstIn (queued u s) (setIn (s .global)) (s .lines k) in
-      let w = and-true (laid maxClusters (g .global) && every test (s .global)) _ (c .global) in
-      let x = and-true (laid maxClusters (g .global)) (every test (s .global)) (w .0) in
-      let z = and-true (distinct (s .global)) (allBelow (u .clusters) in-queue) (w .1) in
+      let w = both-true (laid maxClusters (g .global) && every test (s .global)) _ (c .global) in
+      let x = both-true (laid maxClusters (g .global)) (every test (s .global)) (w .0) in
+      let z = both-true (distinct (s .global)) (allBelow (u .clusters) in-queue) (w .1) in
       record {
         places = x .0;
         known = λ d h.
             ltb-true d (u .clients)
-            (and-true (ltb d (u .clients)) (queued u s d) (every-has test (s .global) d (x .1) h) .0);
-        fronts = λ d h. and-true (ltb d (u .clients)) (queued u s d) (every-has test (s .global) d (x .1) h) .1;
+            (both-true (ltb d (u .clients)) (queued u s d) (every-has test (s .global) d (x .1) h) .0);
+        fronts = λ d h. both-true (ltb d (u .clients)) (queued u s d) (every-has test (s .global) d (x .1) h) .1;
         once = distinct-is (s .global) (z .0);
         each = all-at (u .clusters) in-queue (z .1);
       }
@@ -118,7 +118,7 @@ module _ (g : Gate) (a : Accepted (setupOf (g .setup))) (t : Trimmed (setupOf (g
   unfolding firstIn
   front-in d q =
       let first : heads d (s .lines (u .cluster d)) ≡ true =
-      and-true (heads d (s .lines (u .cluster d))) _ (and-true (heads d (s .lines (u .cluster d)) && _) _ q .0) .0 in
+      both-true (heads d (s .lines (u .cluster d))) _ (both-true (heads d (s .lines (u .cluster d)) && _) _ q .0) .0 in
       let known = line (u .cluster d) .known d (heads-has d (s .lines (u .cluster d)) first) in
       let e = rw (heads-cons d (s .lines (u .cluster d)) first) at
       (global-facts .each (u .cluster d) (ok .homes d known)) in
@@ -129,7 +129,7 @@ module _ (g : Gate) (a : Accepted (setupOf (g .setup))) (t : Trimmed (setupOf (g
   server : (x : state.Server) → serverSound u (setIn all) s x ≡ true → ServerSound u s x × ServerFits x
   unfolding setIn
   server idle e =
-      let w = and-true (eqb (s .units) 0) (eqb (setIn all) 0) e in
+      let w = both-true (eqb (s .units) 0) (eqb (setIn all) 0) e in
       let nobody : (d : ℕ) → (has d standing ≡ false) × (has d (s .background) ≡ false) = λ d.
       not-appended d standing (s .background)
       (sym (in-set d) ∙ rw (eqb-true (setIn all) 0 (w .1)) (member-none d)) in
@@ -153,11 +153,11 @@ module _ (g : Gate) (a : Accepted (setupOf (g .setup))) (t : Trimmed (setupOf (g
         tt,
       )
   server (front d) e =
-      let w = and-true (ltb d (u .clients)) (heads d (s .lines (u .cluster d))) e in
+      let w = both-true (ltb d (u .clients)) (heads d (s .lines (u .cluster d))) e in
       (w .1, omega (arith, ltb-true d (u .clients) (w .0), ok .few-clients))
   server (best d) e =
-      let w = and-true (ltb d (u .clients) && not (realTime u d)) (not (member (setIn all) d)) e in
-      let x = and-true (ltb d (u .clients)) (not (realTime u d)) (w .0) in
+      let w = both-true (ltb d (u .clients) && not (realTime u d)) (not (member (setIn all) d)) e in
+      let x = both-true (ltb d (u .clients)) (not (realTime u d)) (w .0) in
       let gone = sym (in-set d) ∙ not-true (member (setIn all) d) (w .1) in (
         record {
           known = ltb-true d (u .clients) (x .0);
@@ -167,9 +167,9 @@ module _ (g : Gate) (a : Accepted (setupOf (g .setup))) (t : Trimmed (setupOf (g
         omega (arith, ltb-true d (u .clients) (x .0), ok .few-clients),
       )
   server (spent d) e =
-      let w = and-true (ltb d (u .clients) && realTime u d) (not (member (setIn all) d) && not (s .room d)) e in
-      let x = and-true (ltb d (u .clients)) (realTime u d) (w .0) in
-      let y = and-true (not (member (setIn all) d)) (not (s .room d)) (w .1) in (
+      let w = both-true (ltb d (u .clients) && realTime u d) (not (member (setIn all) d) && not (s .room d)) e in
+      let x = both-true (ltb d (u .clients)) (realTime u d) (w .0) in
+      let y = both-true (not (member (setIn all) d)) (not (s .room d)) (w .1) in (
         record {
           known = ltb-true d (u .clients) (x .0);
           real = x .1;

@@ -24,15 +24,15 @@ use Rattle.soundness.specs.Tests.{every, allBelow, zeros, distinct, join
 -- THE SETUP
 
 -- Client rows past N, and sizes past K, are zero.
-unfoldable pub zeroPast : Setup → Bool
-zeroPast v =
+unfoldable pub isTrimmed : Setup → Bool
+isTrimmed v =
     zeros (drop (v .clusters) (v .sizes))
     && (zeros (drop (v .clients) (v .kinds))
     && (zeros (drop (v .clients) (v .homes)) && zeros (drop (v .clients) (v .priorities))))
 
 -- The setup would be accepted. L is a number of 16 bits.
 unfoldable pub setupSound : Setup → Bool
-setupSound v = (eqb (setupAnswer (setupOf v)) accepted && leb (v .cap) maxCap) && zeroPast v
+setupSound v = (eqb (setupAnswer (setupOf v)) accepted && leb (v .cap) maxCap) && isTrimmed v
 
 -- LINES AND QUEUES
 

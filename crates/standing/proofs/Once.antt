@@ -2,7 +2,7 @@
 -- Assumes nothing.
 use Prim.Native.Nat.{ℕ, _<_}
 use mathlib.Core.Path.{_≡_, refl, sym, ap, _∙_}
-use mathlib.Core.Bool.{Bool, true, false, not, _&&_, _||_, cond}
+use mathlib.Core.Bool.{Bool, true, false, not, _&&_, _||_, cond, or-false}
 use mathlib.Core.List.{List, [], _∷_, _++_}
 use mathlib.Core.Option.{Option, some, none}
 use lib.Dec.{eqb}
@@ -46,11 +46,7 @@ seen-after : (p : ℕ → Bool) (l : List ℕ) → ((x : ℕ) → has x l ≡ tr
     → seenFrom (setOf maxClients p) l
     ≡ cond (every (λ (x : ℕ). not (p x)) l && distinct l) (some (setOf maxClients (λ (c : ℕ). p c || has c l))) none
 unfolding seenFrom every distinct
-seen-after p [] h = ap some (setOf-same maxClients p (λ c. p c || false) (λ j b. last (p j)))
-  where
-    last : (b : Bool) → b ≡ b || false
-    last true = refl
-    last false = refl
+seen-after p [] h = ap some (setOf-same maxClients p (λ c. p c || false) (λ j b. sym (or-false (p j))))
 seen-after p (x ∷ l) h =
     rw (member-setOf maxClients p x (h x (has-head x l)))
     (by-test (p x)

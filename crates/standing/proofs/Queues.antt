@@ -13,7 +13,7 @@ use lib.Seq.{drop-cons}
 use borrow.Author.Tests.{eq-eqb, ne-eqb, le-leb, lt-leb, ltb-true, ltb-false}
 use Rattle.rules.specs.Limits.{unusedPlace}
 use Rattle.rules.specs.Setup as rules
-use Rattle.rules.proofs.Tests.{by-test, and-true}
+use Rattle.rules.proofs.Tests.{by-test, both-true}
 use Rattle.sets.specs.Sets.{member, withOf}
 use Rattle.places.specs.Places.{unpad, usedFirst, blank}
 use Rattle.soundness.specs.Tests.{every}
@@ -84,7 +84,7 @@ unfoldable pub lineRest : rules.Setup → ℕ → ℕ → List ℕ → Bool
 lineRest u k j q = usedFirst q && (leb (j + length (unpad q)) (u .size k) && every (ofCluster u k) (unpad q))
 
 pub stands-below : (j m : ℕ) (b : Bool) → (ltb j m && b) ≡ true → j < m
-stands-below j m b e = ltb-true j m (and-true (ltb j m) b e .0)
+stands-below j m b e = ltb-true j m (both-true (ltb j m) b e .0)
 
 module _ (u : rules.Setup) (k : ℕ) (q : List ℕ) (j x : ℕ) (b : j < length q) (e : x ≡ getD q j 0)
     (used : getD q j 0 ≡ unusedPlace → ⊥) where
@@ -92,7 +92,7 @@ module _ (u : rules.Setup) (k : ℕ) (q : List ℕ) (j x : ℕ) (b : j < length 
       → lineRest u k j (drop j q) ≡ lineRest u k (j + 1) (drop (j + 1) q)
   unfolding lineRest unpad usedFirst every
   line-turn t =
-      let w = and-true (ltb j (u .size k)) (ofCluster u k x) t in
+      let w = both-true (ltb j (u .size k)) (ofCluster u k x) t in
       let l = unpad (drop (suc j) q) in
       let n : j + length (x ∷ l) ≡ j + 1 + length l = omega arith in
       rw (drop-cons q j 0, ne-eqb (getD q j 0) unusedPlace used, ← e, w .1, n, add-one j)

@@ -12,7 +12,7 @@ use borrow.Author.Tests.{ltb-true}
 use Rattle.rules.specs.Limits.{maxClusters, maxClients}
 use Rattle.rules.specs.Lists.{has}
 use Rattle.rules.specs.Setup as rules
-use Rattle.rules.proofs.Tests.{by-test, and-true, or-true}
+use Rattle.rules.proofs.Tests.{by-test, both-true, either-true}
 use Rattle.rules.proofs.Lists.{has-append}
 use Rattle.places.specs.Places.{unpad}
 use Rattle.gate.specs.declared.Line.{Line}
@@ -35,7 +35,7 @@ module _ (u : rules.Setup) (few : u .clients ≤ maxClients) where
   unfolding linesSound
   in-lines ls e x h =
       let test : ℕ → Bool = λ k. lineSound u k (getD ls k blankLine .places) in
-      let w = and-true (eqb (length ls) maxClusters) (allBelow maxClusters test) e in
+      let w = both-true (eqb (length ls) maxClusters) (allBelow maxClusters test) e in
       joined-has (linesIn ls) 0 maxClusters x h (λ j a b i.
       let f = line-facts u j (getD ls j blankLine .places) (all-at maxClusters test (w .1) j (omega arith)) in
       omega (arith, f .own x i .known))
@@ -43,8 +43,8 @@ module _ (u : rules.Setup) (few : u .clients ≤ maxClients) where
   in-background : (q : List ℕ) → backgroundSound u q ≡ true → (x : ℕ) → has x (unpad q) ≡ true → x < maxClients
   unfolding backgroundSound
   in-background q e x h =
-      let w = and-true (laid maxClients q) (every (ofBackground u) (unpad q)) e in
-      let b = and-true (ltb x (u .clients)) _ (every-has (ofBackground u) (unpad q) x (w .1) h) in
+      let w = both-true (laid maxClients q) (every (ofBackground u) (unpad q)) e in
+      let b = both-true (ltb x (u .clients)) _ (every-has (ofBackground u) (unpad q) x (w .1) h) in
       omega (arith, ltb-true x (u .clients) (b .0))
 
   -- the lines, and then the background queue
@@ -64,5 +64,5 @@ module _ (u : rules.Setup) (few : u .clients ≤ maxClients) where
       below : linesSound u ls ≡ true → backgroundSound u q ≡ true → (x : ℕ)
           → has x (everyone (linesIn ls) (unpad q)) ≡ true → x < maxClients
       below e f x h =
-          or-true (has x (joined (linesIn ls) 0 maxClusters)) (has x (unpad q)) (rw has-append at h)
+          either-true (has x (joined (linesIn ls) 0 maxClusters)) (has x (unpad q)) (rw has-append at h)
           (in-lines ls e x) (in-background q f x)

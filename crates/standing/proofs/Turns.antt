@@ -1,7 +1,7 @@
 -- One turn of the loops over places that must all hold one number, and of those that count up to a bound.
 -- Assumes nothing.
 use Prim.Native.Nat.{ℕ, suc, _+_, _≤_, _<_}
-use mathlib.Core.Path.{_≡_, refl}
+use mathlib.Core.Path.{_≡_, refl, sym, _∙_}
 use mathlib.Core.Bool.{Bool, true, false, _&&_}
 use mathlib.Core.List.{List, [], _∷_}
 use native.Mathlib.Numerals.{add-one}
@@ -13,8 +13,9 @@ use borrow.Author.Tests.{eq-eqb, ne-eqb}
 use Rattle.rules.specs.Limits.{unusedPlace}
 use Rattle.rules.proofs.Tests.{clash, not-so}
 use Rattle.places.specs.Places.{blank}
-use Rattle.soundness.specs.Tests.{allBelow, zeros}
+use Rattle.soundness.specs.Tests.{every, allBelow, zeros}
 use Rattle.soundness.proofs.Tests.{all-at}
+use Rattle.standing.specs.Answers.{holdsOnly}
 
 -- ONE NUMBER EVERYWHERE
 
@@ -23,6 +24,10 @@ pub record Everywhere (y : ℕ) (test : List ℕ → Bool) : Type 0 where
   pub none : test [] ≡ true
   pub more : (x : ℕ) (l : List ℕ) → test (x ∷ l) ≡ eqb x y && test l
 
+pub only-test : (x : ℕ) → Everywhere x (holdsOnly x)
+unfolding every
+only-test x = record { none = refl; more = λ y l. refl }
+
 pub zeros-test : Everywhere 0 zeros
 unfolding zeros
 zeros-test = record { none = refl; more = λ x l. refl }
@@ -30,6 +35,11 @@ zeros-test = record { none = refl; more = λ x l. refl }
 pub blank-test : Everywhere unusedPlace blank
 unfolding blank
 blank-test = record { none = refl; more = λ x l. refl }
+
+-- such a test of the same number answers the same
+pub only-is : (y : ℕ) (test : List ℕ → Bool) → Everywhere y test → (l : List ℕ) → holdsOnly y l ≡ test l
+only-is y test h [] = only-test y .none ∙ sym (h .none)
+only-is y test h (x ∷ l) = rw (only-test y .more x l, h .more x l, only-is y test h l)
 
 module _ (y : ℕ) (test : List ℕ → Bool) (h : Everywhere y test) (q : List ℕ) (i : ℕ) where
   pub same-turn : i < length q → getD q i 0 ≡ y → test (drop i q) ≡ test (drop (i + 1) q)

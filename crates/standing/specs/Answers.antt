@@ -4,6 +4,7 @@ use Prim.Native.Nat.{ℕ}
 use mathlib.Core.Bool.{Bool, cond}
 use mathlib.Core.List.{List, [], _∷_}
 use mathlib.Core.Option.{Option, some, none}
+use lib.Dec.{eqb}
 use lib.ListN.{getD}
 use Rattle.rules.specs.Limits.{maxClusters}
 use Rattle.rules.specs.Setup as rules
@@ -11,10 +12,14 @@ use Rattle.sets.specs.Sets.{member, withOf}
 use Rattle.places.specs.Places.{unpad}
 use Rattle.gate.specs.declared.Line.{Line}
 use Rattle.gate.specs.Shown.{blankLine}
-use Rattle.soundness.specs.Tests.{joined, setIn}
+use Rattle.soundness.specs.Tests.{every, joined, setIn}
 use Rattle.soundness.specs.Clauses.{everyone, linesSound, backgroundSound, standSound}
 use Rattle.standing.specs.declared.Seen.{Seen}
 use Rattle.standing.specs.declared.Seen.the-variants.{Unsound, Once}
+
+-- x stands everywhere in the list
+abbrev pub holdsOnly : ℕ → List ℕ → Bool
+holdsOnly x l = every (λ (y : ℕ). eqb y x) l
 
 -- the lines that the places hold
 abbrev pub linesIn : List Line → ℕ → List ℕ

@@ -1,5 +1,6 @@
 // The setup, the lines and the background queue: whether they are sound, and who stands there.
 
+use gate::Cluster;
 use gate::Gate;
 use gate::Line;
 use gate::Setup;
@@ -13,8 +14,8 @@ ghost use Rattle.places.specs.Places.{blank};
 ghost use Rattle.gate.specs.Shown.{setupOf};
 ghost use Rattle.gate.specs.Shows.{Fine};
 ghost use Rattle.soundness.specs.Tests.{zeros};
-ghost use Rattle.soundness.specs.Clauses.{zeroPast, setupSound, isReal, ofCluster, ofBackground};
-ghost use Rattle.standing.specs.Answers.{seenOf, linesSeen, backgroundSeen, standing};
+ghost use Rattle.soundness.specs.Clauses.{isTrimmed, setupSound, isReal, ofCluster, ofBackground};
+ghost use Rattle.standing.specs.Answers.{holdsOnly, seenOf, linesSeen, backgroundSeen, standing};
 
 // Who is seen in lines or a queue, each of them once; or that something there is not sound.
 pub enum Seen {
@@ -24,18 +25,25 @@ pub enum Seen {
 
 // THE SETUP
 
-// Nothing but zeros from a place on.
-fn zeros_from(q: &[u8], from: usize) -> bool
-    ensures { λ r. ⌜ r ≡ zeros (drop from (now (q .entry))) ⌝ }
+// Nothing but x from a place on.
+fn holds_only_from(q: &[u8], from: usize, x: u8) -> bool
+    ensures { λ r. ⌜ r ≡ holdsOnly x (drop from (now (q .entry))) ⌝ }
 {
     let mut i = from;
     while i < q.len() {
-        if q[i] != 0 {
+        if q[i] != x {
             return false;
         }
         i += 1;
     }
     true
+}
+
+// Nothing but zeros from one on.
+fn zeros_from(q: &[u8], from: usize) -> bool
+    ensures { λ r. ⌜ r ≡ zeros (drop from (now (q .entry))) ⌝ }
+{
+    holds_only_from(q, from, 0)
 }
 
 // The same of priorities.
@@ -53,8 +61,8 @@ fn zero_priorities_from(q: &[u16], from: usize) -> bool
 }
 
 // Client rows past N, and sizes past K, are zero.
-fn zero_past(s: Setup) -> bool
-    ensures { λ r. ⌜ r ≡ zeroPast s ⌝ }
+fn is_trimmed(s: Setup) -> bool
+    ensures { λ r. ⌜ r ≡ isTrimmed s ⌝ }
 {
     let sizes = s.sizes;
     if !zeros_from(&sizes, gate::wide(s.clusters)) {
@@ -80,7 +88,7 @@ pub fn setup_sound(s: Setup) -> bool
     if !gate::is_accepted(verdict) {
         return false;
     }
-    zero_past(s)
+    is_trimmed(s)
 }
 
 // LINES AND QUEUES
@@ -89,14 +97,7 @@ pub fn setup_sound(s: Setup) -> bool
 pub fn blank_from(q: &[u8], from: usize) -> bool
     ensures { λ r. ⌜ r ≡ blank (drop from (now (q .entry))) ⌝ }
 {
-    let mut i = from;
-    while i < q.len() {
-        if q[i] != places::UNUSED {
-            return false;
-        }
-        i += 1;
-    }
-    true
+    holds_only_from(q, from, places::UNUSED)
 }
 
 // Below N and real-time.
@@ -111,14 +112,14 @@ pub fn is_real(s: Setup, c: usize) -> bool
 }
 
 // And of cluster k.
-pub fn of_cluster(s: Setup, k: usize, c: usize) -> bool
+pub fn of_cluster(s: Setup, k: Cluster, c: usize) -> bool
     requires { ⌜ Fine s ⌝ }
-    ensures { λ r. ⌜ r ≡ ofCluster (setupOf s) k c ⌝ }
+    ensures { λ r. ⌜ r ≡ ofCluster (setupOf s) (k .0) c ⌝ }
 {
     if !is_real(s, c) {
         return false;
     }
-    gate::wide(s.homes[c]) == k
+    gate::wide(s.homes[c]) == k.0
 }
 
 // Below N and best-effort.
@@ -133,11 +134,12 @@ pub fn of_background(s: Setup, c: usize) -> bool
 }
 
 // Client c may stand at a place of the line of cluster k.
-fn may_stand(s: Setup, k: usize, at: usize, c: usize) -> bool
-    requires { ⌜ (k < maxClusters) × Fine s ⌝ }
-    ensures { λ r. ⌜ r ≡ (ltb at (setupOf s .size k) && ofCluster (setupOf s) k c) ⌝ }
+fn may_stand(s: Setup, k: Cluster, at: usize, c: usize) -> bool
+    requires { ⌜ (k .0 < maxClusters) × Fine s ⌝ }
+    ensures { λ r. ⌜ r ≡ (ltb at (setupOf s .size (k .0)) && ofCluster (setupOf s) (k .0) c) ⌝ }
 {
-    if gate::wide(s.sizes[k]) <= at {
+    let i = k.0;
+    if gate::wide(s.sizes[i]) <= at {
         return false;
     }
     of_cluster(s, k, c)
@@ -162,7 +164,7 @@ fn lines_seen(s: Setup, lines: [Line; 8]) -> Seen
                 break 'places;
             }
             let c = gate::wide(q[j]);
-            if !may_stand(s, k, j, c) {
+            if !may_stand(s, Cluster(k), j, c) {
                 break 'lines;
             }
             if sets::member(seen, c) {

@@ -1,25 +1,23 @@
 -- What an event on a sound gate leaves: the rules' answer, and the shown form of the state after it, which is sound.
 -- Assumes nothing.
-use Prim.Native.Nat.{ℕ}
-use mathlib.Core.Path.{_≡_, refl, sym, ap, _∙_}
-use mathlib.Core.Bool.{true, false, cond}
+use mathlib.Core.Path.{_≡_, sym, _∙_}
+use mathlib.Core.Bool.{true, false}
 use mathlib.Core.Option.{Option, some, none}
 use Rattle.rules.specs.Refusals.{unsound}
-use Rattle.rules.specs.State.{State}
 use Rattle.rules.specs.Sound.{Sound}
 use Rattle.rules.specs.Events.{Event}
 use Rattle.rules.specs.Records.{answerOf, stepOf}
-use Rattle.rules.proofs.Setups.{allowed}
 use Rattle.rules.proofs.Theorems.{sound-stays}
 use Rattle.gate.specs.declared.Gate.{Gate}
-use Rattle.gate.specs.Shown.{setupOf, serverOf, stateOf, shown}
-use Rattle.gate.specs.Shows.{Shows, ServerFits}
+use Rattle.gate.specs.Shown.{setupOf, stateOf, shown}
+use Rattle.gate.specs.Shows.{Shows}
 use Rattle.gate.proofs.Reading.{laid-shows, shows-is, shown-back}
 use Rattle.soundness.specs.Clauses.{soundOf}
 use Rattle.soundness.proofs.Exact.{passed-laid, passed-sound, shown-passes}
 use Rattle.events.specs.Answers.{numberOf, Usable, Answers}
 use Rattle.events.specs.declared.Answered.{Answered}
-use Rattle.step.specs.Stepped.{Told, toldIn, ruled, stepped}
+use Rattle.events.proofs.Answering.{sound-usable}
+use Rattle.step.specs.Stepped.{toldIn, ruled, stepped}
 
 module _ (g : Gate) (h : soundOf g ≡ true) where
   pub shows : Shows (g .setup) (stateOf g) g
@@ -30,13 +28,7 @@ module _ (g : Gate) (h : soundOf g ≡ true) where
 
   -- every index of the code is in its range
   pub usable : Usable g
-  unfolding stateOf
-  usable =
-      record {
-        fine = shows .fine;
-        few-clusters = allowed (setupOf (g .setup)) (sound-now .setup) .few-clusters;
-        server = shows .server-fits;
-      }
+  usable = sound-usable shows sound-now
 
   -- an answer by the rules is the step's
   pub stepped-is : (r : Answered) (o : Option Event)
@@ -65,6 +57,11 @@ module _ (g : Gate) (h : soundOf g ≡ true) where
   unheard r n e =
       let q = e ∙ sym (shown-back g (passed-laid g h)) in
       (stepped-is r none n q, still-sound r none q)
+
+-- a sound gate's step is the rules' own
+pub step-sound : (g : Gate) (o : Option Event) → soundOf g ≡ true → stepped g o ≡ ruled g o
+unfolding stepped
+step-sound g o h = rw h
 
 -- 19 and the same gate
 pub refused : (g : Gate) → soundOf g ≡ false → (r : Answered) (o : Option Event)

@@ -4,8 +4,6 @@ use Prim.Native.Nat.{ℕ}
 use mathlib.Core.Bool.{cond}
 use mathlib.Core.Option.{Option}
 use Rattle.rules.specs.Refusals.{unsound}
-use Rattle.rules.specs.Setup as rules
-use Rattle.rules.specs.State.{State}
 use Rattle.rules.specs.Events.{Event}
 use Rattle.rules.specs.Records.{answerOf, stepOf}
 use Rattle.gate.specs.declared.Gate.{Gate}

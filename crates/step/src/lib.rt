@@ -42,9 +42,9 @@ pub fn sound_record(g: Gate, h: Heard) -> Answered
     }
 }
 
-// An event on any gate.
-pub fn step(g: Gate, e: Event) -> Answered
-    ensures { λ r. ⌜ toldIn r ≡ stepped g (some (eventIn e)) ⌝ }
+// What a record says, on any gate: 19 before all else.
+fn checked_record(g: Gate, h: Heard) -> Answered
+    ensures { λ r. ⌜ toldIn r ≡ stepped g (heardIn h) ⌝ }
 {
     if !sound::sound(g) {
         return Answered {
@@ -52,18 +52,19 @@ pub fn step(g: Gate, e: Event) -> Answered
             gate: g,
         };
     }
-    sound_step(g, e)
+    sound_record(g, h)
+}
+
+// An event on any gate.
+pub fn step(g: Gate, e: Event) -> Answered
+    ensures { λ r. ⌜ toldIn r ≡ stepped g (some (eventIn e)) ⌝ }
+{
+    checked_record(g, Heard::Known(e))
 }
 
 // A raw record, code and argument, on any gate: 19 before 18.
 pub fn step_record(g: Gate, code: u8, argument: u16) -> Answered
     ensures { λ r. ⌜ toldIn r ≡ stepped g (eventOf (record { code = code; argument = argument })) ⌝ }
 {
-    if !sound::sound(g) {
-        return Answered {
-            answer: Answer::Unsound,
-            gate: g,
-        };
-    }
-    sound_record(g, heard_in(code, argument))
+    checked_record(g, heard_in(code, argument))
 }

@@ -3,7 +3,7 @@
 use native.Mathlib.Omega.{arith}
 use borrow.Author.Needs.{needs}
 use borrow.Author.Tests.{le-ltb, lt-ltb, not-false, not-true}
-use Rattle.rules.specs.Lists.{count}
+use Rattle.rules.specs.Lists.{countBelow}
 use Rattle.charging.specs.Charged.{precedesIn}
 use Rattle.charging.proofs.Building.{counted}
 use Rattle.charging.proofs.with_charged.Statement.{statement}
@@ -37,7 +37,7 @@ returns-2 c =
     rw (
       ← m .ensures,
       not-false (m .result) (d .if1 .left),
-      lt-ltb (count p (a .n)) (a .m) (omega (arith, e, c .before .if2 .taken)),
+      lt-ltb (countBelow p (a .n)) (a .m) (omega (arith, e, c .before .if2 .taken)),
     ) (c .with .ensures)
 
 returns-3 : tie.Need-returns-3
@@ -50,7 +50,7 @@ returns-3 c =
     rw (
       ← m .ensures,
       not-false (m .result) (d .if1 .left),
-      le-ltb (count p (a .n)) (a .m) (omega (arith, e, c .if2 .left)),
+      le-ltb (countBelow p (a .n)) (a .m) (omega (arith, e, c .if2 .left)),
     )
 
 pub with-charged-spec : {M : Type 1} → statement M

@@ -65,10 +65,11 @@ returns-2 c =
     let home = i .before .home .ensures in
     let a = i .before .before .before in
     let d = a .args .c .0 in
+    let served = rw (i .index .ensures) at (c .before .before .before .is-front .ensures) in
     λ v s h turn.
     abort-served s d (room-has h home _
     (rw (i .index .ensures) at (m .before .member .ensures))) (m .if1 .left)
-    (c .before .before .before .is-front .ensures ∙ ap (λ x. isFront x d) (h .server)) (c .before .before .if2 .taken)
+    (served ∙ ap (λ x. isFront x d) (h .server)) (c .before .before .if2 .taken)
     (by-rank d (spend d s) s (spend d s) (c .gone .ensures .1 v (spend d s)
     (rw (c .before .with-server .ensures) (shows-spend h d (a .pre .0) (a .args .c) refl))))
 
@@ -95,12 +96,13 @@ returns-3 c =
     let home = i .before .home .ensures in
     let a = i .before .before .before in
     let d = a .args .c .0 in
+    let served = rw (i .index .ensures) at (f .before .before .before .is-front .ensures) in
     λ v s h turn.
     let first = heads-at h home _ (f .front .ensures) in
     let same = eq-eqb _ d (c .before .if3 .taken ∙ c .before .before .byte .ensures) in
     abort-front s d (room-has h home _
     (rw (i .index .ensures) at (m .before .member .ensures))) (m .if1 .left)
-    (f .before .before .before .is-front .ensures ∙ ap (λ x. isFront x d) (h .server)) (f .before .before .if2 .left)
+    (served ∙ ap (λ x. isFront x d) (h .server)) (f .before .before .if2 .left)
     first same (c .front-aborted .ensures v s h (turn (sym first ∙ same)))
 
 gone-requires-2 : tie.Need-gone-requires-2
@@ -114,12 +116,13 @@ returns-4 c =
     let home = i .before .home .ensures in
     let a = i .before .before .before in
     let d = a .args .c .0 in
+    let served = rw (i .index .ensures) at (f .before .before .before .is-front .ensures) in
     λ v s h turn.
     let first = heads-at h home _ (f .front .ensures) in
     let other = ne-eqb _ d (λ q. c .before .if3 .left (q ∙ sym (c .before .before .byte .ensures))) in
     abort-line s d (room-has h home _
     (rw (i .index .ensures) at (m .before .member .ensures))) (m .if1 .left)
-    (f .before .before .before .is-front .ensures ∙ ap (λ x. isFront x d) (h .server)) (f .before .before .if2 .left)
+    (served ∙ ap (λ x. isFront x d) (h .server)) (f .before .before .if2 .left)
     first other (c .gone2 .ensures .1 v s h)
 
 pub aborted-spec : {M : Type 1} → statement M

@@ -6,7 +6,7 @@ use mathlib.Core.Path.{refl, sym, ap, subst}
 use mathlib.Core.List.{List}
 use lib.ListN.{length}
 use Rattle.form.proofs.Parts.{Going, starting, going-on, taken}
-use Rattle.form.proofs.Parts.{before-lf, ends-lf, passed-lf, before-end, ends-end, passed-end}
+use Rattle.form.proofs.Parts.{firstLine-lf, ends-lf, passed-lf, firstLine-end, ends-end, passed-end}
 use Rattle.form.proofs.take_in.Statement.{statement}
 use Rattle.form.proofs.take_in.Tie as tie
 
@@ -40,7 +40,7 @@ returns c = let l = c .before .before .before in
     let there : i < length p = omega arith in
     let here = c .if1 .taken in
     taken p (a .at) (a .room .now) (l .before .least .result) (l .loop .room) i (l .loop .k) (l .loop .inv)
-    (before-lf p i there here) (a .n) (l .before .least .ensures) _ refl
+    (firstLine-lf p i there here) (a .n) (l .before .least .ensures) _ refl
     (ap (λ (n : ℕ). i + n) (sym (passed-lf p i there here)))
     (sym (ends-lf p i there here))
 
@@ -75,7 +75,7 @@ returns-2 c = let l = c .before in
     let i = l .loop .i in
     let past : length p ≤ i = omega arith in
     taken p (a .at) (a .room .now) (l .before .least .result) (l .loop .room) i (l .loop .k) (l .loop .inv)
-    (before-end p i past) (a .n) (l .before .least .ensures) _ refl
+    (firstLine-end p i past) (a .n) (l .before .least .ensures) _ refl
     (omega (arith, passed-end p i past))
     (sym (ends-end p i past))
 

@@ -38,8 +38,8 @@ unfolding firstIn
 returns c =
     let s = c .before .before .before in
     let a = s .args in
-    let q = getD (a .t2) (a .k) blankLine .places in
-    let n = lines-each (a .t2) 8 _ (s .good .1 .0) (a .k) blankLine
+    let q = getD (a .t2) (a .k .0) blankLine .places in
+    let n = lines-each (a .t2) 8 _ (s .good .1 .0) (a .k .0) blankLine
     (omega (arith, lines-length (a .t2) 8 _ (s .good .1 .0), s .pre .0)) in
     rw (no-front q (omega (arith, n)) (c .if1 .taken))
 
@@ -56,8 +56,8 @@ returns-2 : tie.Need-returns-2
 returns-2 c =
     let s = c .before .before .before .before .before .before in
     let a = s .args in
-    let q = getD (a .t2) (a .k) blankLine .places in
-    let n = lines-each (a .t2) 8 _ (s .good .1 .0) (a .k) blankLine
+    let q = getD (a .t2) (a .k .0) blankLine .places in
+    let n = lines-each (a .t2) 8 _ (s .good .1 .0) (a .k .0) blankLine
     (omega (arith, lines-length (a .t2) 8 _ (s .good .1 .0), s .pre .0)) in
     let w = c .before .before in
     let out = sym (c .before .is-queued .ensures) ∙ not-true _ (c .if2 .taken) in
@@ -71,8 +71,8 @@ returns-3 : tie.Need-returns-3
 returns-3 c =
     let s = c .before .before .before .before .before .before .before in
     let a = s .args in
-    let q = getD (a .t2) (a .k) blankLine .places in
-    let n = lines-each (a .t2) 8 _ (s .good .1 .0) (a .k) blankLine
+    let q = getD (a .t2) (a .k .0) blankLine .places in
+    let n = lines-each (a .t2) 8 _ (s .good .1 .0) (a .k .0) blankLine
     (omega (arith, lines-length (a .t2) 8 _ (s .good .1 .0), s .pre .0)) in
     let w = c .before .before .before in
     let in-queue = sym (c .before .before .is-queued .ensures) ∙ not-false _ (c .before .if2 .left) in

@@ -12,15 +12,15 @@ is-first-requires c κs = search needs
 returns : tie.Need-returns
 returns c = rw (sym (c .before .is-first .ensures) ∙ not-true _ (c .if1 .taken))
 
-is-served-requires : tie.Need-is-served-requires
-is-served-requires c κs = search needs
+is-front-requires : tie.Need-is-front-requires
+is-front-requires c κs = search needs
 
 returns-2 : tie.Need-returns-2
 returns-2 c =
     let f = c .before .before in
     rw (
       sym (f .before .is-first .ensures) ∙ not-false _ (f .if1 .left),
-      sym (c .before .is-served .ensures) ∙ c .if2 .taken,
+      sym (c .before .is-front .ensures) ∙ c .if2 .taken,
     )
 
 cluster-of-requires : tie.Need-cluster-of-requires
@@ -35,7 +35,7 @@ returns-3 c =
     let f = i .before .before in
     rw (
       sym (f .before .is-first .ensures) ∙ not-false _ (f .if1 .left),
-      sym (i .before .is-served .ensures) ∙ i .if2 .left,
+      sym (i .before .is-front .ensures) ∙ i .if2 .left,
       c .is-blocked .ensures,
       c .before .cluster-of .ensures,
     )
@@ -46,7 +46,7 @@ is-queued-spec =
     (tie.spec
     is-first-requires
     returns
-    is-served-requires
+    is-front-requires
     returns-2
     cluster-of-requires
     is-blocked-requires

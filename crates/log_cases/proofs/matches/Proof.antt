@@ -1,4 +1,4 @@
--- `log_cases::matches` meets its contract: the buffer holds every report, and the bytes that are compared are the report.
+-- `log_cases::matches` meets its contract: the buffer holds every report, and what is compared are the report's bytes.
 -- Assumes nothing.
 use mathlib.Core.Path.{_∙_, sym}
 use native.Mathlib.Omega.{arith}

@@ -4,14 +4,14 @@ use Prim.Native.Nat.{_+_, _-_, _≤_}
 use native.Mathlib.Omega.{arith}
 use mathlib.Core.Path.{_≡_, ap}
 use lib.ListN.{length, drop, drop-of-length-le}
-use Rattle.order.specs.Steps.{upTo}
+use Rattle.order.specs.Steps.{fieldLength}
 use Rattle.order.proofs.Fields.{at-comma, no-comma}
 use Rattle.order.proofs.end.Statement.{statement}
 use Rattle.order.proofs.end.Tie as tie
 
 abbrev Inv-loop : tie.InvT-loop
 Inv-loop s a i₀ i =
-    (a ≤ i) × (i ≤ length s) × (i + upTo (drop i s) ≡ a + upTo (drop a s))
+    (a ≤ i) × (i ≤ length s) × (i + fieldLength (drop i s) ≡ a + fieldLength (drop a s))
 
 abbrev μ-loop : tie.MeasureT-loop
 μ-loop s a i₀ i = length s - i
@@ -38,7 +38,7 @@ loop-again c = let l = c .before .before .before in
 
 returns-2 : tie.Need-returns-2 Inv-loop μ-loop
 returns-2 c = let l = c .before in
-    omega (arith, ap upTo (drop-of-length-le (l .before .args .s .now) {i = l .loop .i} (omega arith)))
+    omega (arith, ap fieldLength (drop-of-length-le (l .before .args .s .now) {i = l .loop .i} (omega arith)))
 
 pub end-spec : {M : Type 1} → statement M
 end-spec =

@@ -7,7 +7,7 @@ use lib.ListN.{getD, take, drop}
 use mir.Facts.{toZ-ofZ}
 use Rattle.order.specs.Numbers.{outOfRange, fieldOf}
 use Rattle.order.specs.Orders.{values}
-use Rattle.order.specs.Steps.{upTo}
+use Rattle.order.specs.Steps.{fieldLength}
 use Rattle.order.proofs.Fields.{At, at-start, at-next, value-here, value-past}
 use Rattle.order.proofs.field.Statement.{statement}
 use Rattle.order.proofs.field.Tie as tie
@@ -66,7 +66,7 @@ returns-2 c = let l = c .before .before .before .before in
     let s = l .before .before .args .s .now in
     let a = l .loop .a in
     let e = c .before .before .end2 in
-    let long : e .result - a ≡ upTo (drop a s) = omega (arith, e .ensures .0) in
+    let long : e .result - a ≡ fieldLength (drop a s) = omega (arith, e .ensures .0) in
     let last : l .loop .k ≡ l .before .before .args .j = omega arith in
     toZ-ofZ (record { sfits = c .field-value .ok })
     ∙ c .field-value .ensures

@@ -32,7 +32,9 @@ returns-3 : tie.Need-returns-3
 returns-3 c = search needs
 
 returns-4 : tie.Need-returns-4
-returns-4 c = rw (c .before .before .before .server .given .1, c .cluster-of .ensures, c .before .index .ensures)
+returns-4 c =
+    let i = c .before .before .before in
+    rw (i .before .before .server .given .1, c .before .before .cluster-of .ensures, i .index .ensures)
 
 pub is-blocked-spec : {M : Type 1} → statement M
 is-blocked-spec =

@@ -1,7 +1,7 @@
 -- `sound::charge_sound` meets its contract.
 -- Assumes nothing.
-use mathlib.Core.Path.{_≡_, refl, sym, _∙_}
-use mathlib.Core.Bool.{Bool, true, false, _&&_, _||_}
+use mathlib.Core.Path.{sym, _∙_}
+use mathlib.Core.Bool.{_&&_, or-true, or-false}
 use borrow.Author.Tests.{lt-leb, le-leb, eq-eqb, ne-eqb}
 use borrow.Author.Needs.{needs}
 use lib.Dec.{ltb}
@@ -11,14 +11,6 @@ use Rattle.gate.specs.Shown.{setupOf}
 use Rattle.sound.proofs.charge_sound.Statement.{statement}
 use Rattle.sound.proofs.charge_sound.Tie as tie
 
-or-last : (b : Bool) → b || true ≡ true
-or-last true = refl
-or-last false = refl
-
-or-none : (b : Bool) → b || false ≡ b
-or-none true = refl
-or-none false = refl
-
 returns : tie.Need-returns
 returns c = rw (lt-leb _ maxCharge (c .if1 .taken))
 
@@ -26,7 +18,7 @@ returns-2 : tie.Need-returns-2
 returns-2 c =
     let a = c .before .before .args in
     rw (le-leb _ maxCharge (c .before .if1 .left), eq-eqb _ 0 (c .if2 .taken))
-    (sym (or-last (ltb (a .owner) (a .s .clients) && realTime (setupOf (a .s)) (a .owner))))
+    (sym (or-true (ltb (a .owner) (a .s .clients) && realTime (setupOf (a .s)) (a .owner))))
 
 is-real-requires : tie.Need-is-real-requires
 is-real-requires c κs = search needs
@@ -35,7 +27,7 @@ returns-3 : tie.Need-returns-3
 returns-3 c =
     let a = c .before .before .before .args in
     rw (le-leb _ maxCharge (c .before .before .if1 .left), ne-eqb _ 0 (c .before .if2 .left))
-    (c .is-real .ensures ∙ sym (or-none (ltb (a .owner) (a .s .clients) && realTime (setupOf (a .s)) (a .owner))))
+    (c .is-real .ensures ∙ sym (or-false (ltb (a .owner) (a .s .clients) && realTime (setupOf (a .s)) (a .owner))))
 
 pub charge-sound-spec : {M : Type 1} → statement M
 charge-sound-spec = tie.close (tie.spec returns returns-2 is-real-requires returns-3)

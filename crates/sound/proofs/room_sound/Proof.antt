@@ -13,7 +13,7 @@ use Rattle.sound.proofs.room_sound.Tie as tie
 returns : tie.Need-returns
 returns c =
     let a = c .before .args in
-    rw (c .if1 .taken) (sym (room-empty (setupOf (a .t1)) (a .stand) (a .k) (unpad (a .line .places))))
+    rw (c .if1 .taken) (sym (room-empty (setupOf (a .t1)) (a .stand) (a .k .0) (unpad (a .line .places))))
 
 wide-requires : tie.Need-wide-requires
 wide-requires c κs = search needs

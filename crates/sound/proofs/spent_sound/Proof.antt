@@ -6,7 +6,7 @@ use lib.Dec.{ltb}
 use borrow.Author.Tests.{not-true, not-false, ltb-true, lt-ltb}
 use borrow.Author.Needs.{needs}
 use Rattle.rules.specs.Limits.{maxClients}
-use Rattle.rules.proofs.Tests.{and-true}
+use Rattle.rules.proofs.Tests.{both-true}
 use Rattle.sound.proofs.spent_sound.Statement.{statement}
 use Rattle.sound.proofs.spent_sound.Tie as tie
 
@@ -50,7 +50,7 @@ returns-3 c =
     let s = r .before .before in
     let a = s .args in
     let real = sym (r .before .is-real .ensures) ∙ not-false _ (r .if1 .left) in
-    let known = ltb-true (a .c) (a .s .clients) (and-true (ltb (a .c) (a .s .clients)) _ real .0) in
+    let known = ltb-true (a .c) (a .s .clients) (both-true (ltb (a .c) (a .s .clients)) _ real .0) in
     rw (
       real,
       sym (m .before .member .ensures) ∙ m .if2 .left,

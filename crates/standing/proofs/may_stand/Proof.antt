@@ -16,7 +16,7 @@ wide-requires c κs = search needs
 returns : tie.Need-returns
 returns c =
     let a = c .before .before .before .args in
-    rw (le-ltb (a .at) (setupOf (a .t1) .size (a .k)) (omega (arith, c .before .wide .ensures)))
+    rw (le-ltb (a .at) (setupOf (a .t1) .size (a .k .0)) (omega (arith, c .before .wide .ensures)))
 
 of-cluster-requires : tie.Need-of-cluster-requires
 of-cluster-requires c κs = search needs
@@ -24,7 +24,7 @@ of-cluster-requires c κs = search needs
 returns-2 : tie.Need-returns-2
 returns-2 c =
     let a = c .before .before .before .before .args in
-    rw (lt-ltb (a .at) (setupOf (a .t1) .size (a .k)) (omega (arith, c .before .before .wide .ensures)))
+    rw (lt-ltb (a .at) (setupOf (a .t1) .size (a .k .0)) (omega (arith, c .before .before .wide .ensures)))
     (c .of-cluster .ensures)
 
 pub may-stand-spec : {M : Type 1} → statement M

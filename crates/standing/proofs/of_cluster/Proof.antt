@@ -6,7 +6,7 @@ use lib.Dec.{ltb}
 use borrow.Author.Needs.{needs}
 use borrow.Author.Tests.{not-true, not-false, ltb-true}
 use Rattle.rules.specs.Setup.{realTime}
-use Rattle.rules.proofs.Tests.{and-true}
+use Rattle.rules.proofs.Tests.{both-true}
 use Rattle.gate.specs.Shown.{setupOf}
 use Rattle.standing.proofs.of_cluster.Statement.{statement}
 use Rattle.standing.proofs.of_cluster.Tie as tie
@@ -21,7 +21,7 @@ element-copy-out-wide : tie.Need-element-copy-out-wide
 element-copy-out-wide c =
     let a = c .before .before .args in
     let real = sym (c .before .is-real .ensures) ∙ not-false _ (c .if1 .left) in
-    let b = and-true (ltb (a .c) (a .t1 .clients)) (realTime (setupOf (a .t1)) (a .c)) real in
+    let b = both-true (ltb (a .c) (a .t1 .clients)) (realTime (setupOf (a .t1)) (a .c)) real in
     omega (arith, ltb-true (a .c) (a .t1 .clients) (b .0), c .before .before .pre .clients)
 
 wide-requires : tie.Need-wide-requires
@@ -29,8 +29,8 @@ wide-requires c κs = search needs
 
 returns-2 : tie.Need-returns-2
 returns-2 c =
-    let i = c .before .before in
-    rw (sym (i .before .is-real .ensures) ∙ not-false _ (i .if1 .left), c .wide .ensures)
+    let i = c .before .before .before in
+    rw (sym (i .before .is-real .ensures) ∙ not-false _ (i .if1 .left), c .before .wide .ensures)
 
 pub of-cluster-spec : {M : Type 1} → statement M
 of-cluster-spec =

@@ -25,8 +25,8 @@ returns c =
     let e = sym (ap (λ (t : Told). eqb (t .number) accepted) (v .ensures)) ∙ sym (a .ensures) in
     rw (e ∙ not-true _ (c .if1 .taken))
 
-zero-past-requires : tie.Need-zero-past-requires
-zero-past-requires c κs = search needs
+is-trimmed-requires : tie.Need-is-trimmed-requires
+is-trimmed-requires c κs = search needs
 
 returns-2 : tie.Need-returns-2
 unfolding setupSound verdictOf
@@ -38,9 +38,9 @@ returns-2 c =
       sym (ap (λ (t : Told). eqb (t .number) accepted) (v .ensures)) ∙ sym (a .ensures)
           ∙ not-false _ (c .before .if1 .left),
       le-leb (s .cap) maxCap (search needs),
-    ) (c .zero-past .ensures)
+    ) (c .is-trimmed .ensures)
 
 pub setup-sound-spec : {M : Type 1} → statement M
 setup-sound-spec =
     tie.close
-    (tie.spec setup-verdict-requires is-accepted-requires returns zero-past-requires returns-2)
+    (tie.spec setup-verdict-requires is-accepted-requires returns is-trimmed-requires returns-2)

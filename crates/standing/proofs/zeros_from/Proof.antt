@@ -1,60 +1,20 @@
--- `standing::zeros_from` meets its contract: what is left to look at passes the test if the whole does.
+-- `standing::zeros_from` meets its contract.
 -- Assumes nothing.
-use Prim.Native.Nat.{_-_}
-use mathlib.Core.Path.{_≡_, refl, sym, _∙_}
-use native.Mathlib.Omega.{arith}
-use lib.ListN.{length, drop}
+use mathlib.Core.Path.{_∙_}
+use lib.ListN.{drop}
+use borrow.Author.Needs.{needs}
 use Rattle.soundness.specs.Tests.{zeros}
-use Rattle.standing.proofs.Turns.{zeros-test, same-turn, same-stop, same-end}
+use Rattle.standing.proofs.Turns.{zeros-test, only-is}
 use Rattle.standing.proofs.zeros_from.Statement.{statement}
 use Rattle.standing.proofs.zeros_from.Tie as tie
 
-abbrev Inv-loop : tie.InvT-loop
-Inv-loop q from i₀ i = zeros (drop i q) ≡ zeros (drop from q)
+holds-only-from-requires : tie.Need-holds-only-from-requires
+holds-only-from-requires c κs = search needs
 
-abbrev μ-loop : tie.MeasureT-loop
-μ-loop q from i₀ i = length q - i
-
-loop-holds : tie.Need-loop-holds Inv-loop μ-loop
-loop-holds c = refl
-
-shared-slice-read-if1 : tie.Need-shared-slice-read-if1 Inv-loop μ-loop
-shared-slice-read-if1 c = omega arith
-
-returns : tie.Need-returns Inv-loop μ-loop
+returns : tie.Need-returns
 returns c =
-    let o = c .before .before .before .loop in
-    let q = c .before .before .before .before .args .q .now in
-    sym (same-stop 0 zeros zeros-test q (o .i) (omega arith) (c .if1 .taken)) ∙ o .inv
-
-add-i : tie.Need-add-i Inv-loop μ-loop
-add-i c = omega arith
-
-loop-less : tie.Need-loop-less Inv-loop μ-loop
-loop-less c = omega arith
-
-loop-again : tie.Need-loop-again Inv-loop μ-loop
-loop-again c =
-    let o = c .before .before .before .loop in
-    let q = c .before .before .before .before .args .q .now in
-    sym (same-turn 0 zeros zeros-test q (o .i) (omega arith) (c .if1 .left)) ∙ o .inv
-
-returns-2 : tie.Need-returns-2 Inv-loop μ-loop
-returns-2 c =
-    let o = c .before .loop in
-    let q = c .before .before .args .q .now in
-    sym (same-end 0 zeros zeros-test q (o .i) (omega arith)) ∙ o .inv
+    let a = c .before .before .args in
+    c .holds-only-from .ensures ∙ only-is 0 zeros zeros-test (drop (a .from) (a .q .now))
 
 pub zeros-from-spec : {M : Type 1} → statement M
-zeros-from-spec =
-    tie.close
-    (tie.spec
-    Inv-loop
-    μ-loop
-    loop-holds
-    shared-slice-read-if1
-    returns
-    add-i
-    loop-less
-    loop-again
-    returns-2)
+zeros-from-spec = tie.close (tie.spec holds-only-from-requires returns)

@@ -1,34 +1,20 @@
 -- `step::step_record` meets its contract.
 -- Assumes nothing.
-use mathlib.Core.Path.{refl, sym, ap, _∙_}
+use mathlib.Core.Path.{ap, _∙_}
 use borrow.Author.Needs.{needs}
-use borrow.Author.Tests.{not-true, not-false}
-use Rattle.events.specs.declared.Answer.the-variants.{Unsound}
 use Rattle.step.specs.Stepped.{stepped}
-use Rattle.step.proofs.Doors.{refused}
 use Rattle.step.proofs.step_record.Statement.{statement}
 use Rattle.step.proofs.step_record.Tie as tie
-
-sound-requires : tie.Need-sound-requires
-sound-requires c κs = search needs
-
-returns : tie.Need-returns
-returns c =
-    let g = c .before .before .args .g in
-    refused g (sym (c .before .sound .ensures) ∙ not-true _ (c .if1 .taken)) (record { answer = Unsound; gate = g }) _
-    refl refl
 
 heard-in-requires : tie.Need-heard-in-requires
 heard-in-requires c κs = search needs
 
-sound-record-requires : tie.Need-sound-record-requires
-sound-record-requires c κs = sym (c .before .before .sound .ensures) ∙ not-false _ (c .before .if1 .left)
+checked-record-requires : tie.Need-checked-record-requires
+checked-record-requires c κs = search needs
 
-returns-2 : tie.Need-returns-2
-returns-2 c =
-    let g = c .before .before .before .before .args .g in
-    c .sound-record .ensures .0 ∙ ap (stepped g) (c .before .heard-in .ensures)
+returns : tie.Need-returns
+returns c =
+    c .checked-record .ensures ∙ ap (stepped (c .before .before .args .g)) (c .before .heard-in .ensures)
 
 pub step-record-spec : {M : Type 1} → statement M
-step-record-spec =
-    tie.close (tie.spec sound-requires returns heard-in-requires sound-record-requires returns-2)
+step-record-spec = tie.close (tie.spec heard-in-requires checked-record-requires returns)

@@ -1,11 +1,10 @@
 -- `text::put_number` meets its contract: what io::decimal spells is the number's text, of at most 20 bytes.
 -- Assumes nothing.
-use Prim.Native.Nat.{ℕ, _+_, _≤_}
+use Prim.Native.Nat.{ℕ}
 use native.Mathlib.Omega.{arith}
-use mathlib.Core.Path.{_≡_, sym, _∙_, subst}
+use mathlib.Core.Path.{_∙_, subst}
 use mathlib.Core.List.{List}
 use borrow.Author.Needs.{needs}
-use lib.ListN.{length, take}
 use Rattle.text.specs.Text.{decimal, WroteAt}
 use Rattle.text.proofs.Decimal.{digits-most, decimal-is}
 use Rattle.text.proofs.put_number.Statement.{statement}

@@ -61,9 +61,6 @@ mul-n c = omega arith
 wide-requires : tie.Need-wide-requires Inv-loop μ-loop
 wide-requires c κs = tt
 
-sub-n : tie.Need-sub-n Inv-loop μ-loop
-sub-n c = omega arith
-
 add-n : tie.Need-add-n Inv-loop μ-loop
 add-n c = omega arith
 
@@ -101,7 +98,6 @@ size-spec =
     returns-4
     mul-n
     wide-requires
-    sub-n
     add-n
     add-i
     loop-less

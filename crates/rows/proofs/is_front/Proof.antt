@@ -1,8 +1,8 @@
--- `fronts::is_served` meets its contract.
+-- `rows::is_front` meets its contract.
 -- Assumes nothing.
 use borrow.Author.Needs.{needs}
-use Rattle.fronts.proofs.is_served.Statement.{statement}
-use Rattle.fronts.proofs.is_served.Tie as tie
+use Rattle.rows.proofs.is_front.Statement.{statement}
+use Rattle.rows.proofs.is_front.Tie as tie
 
 enum-told : tie.Need-enum-told
 enum-told c = search needs
@@ -31,8 +31,8 @@ returns-3 c = search needs
 returns-4 : tie.Need-returns-4
 returns-4 c = search needs
 
-pub is-served-spec : {M : Type 1} → statement M
-is-served-spec =
+pub is-front-spec : {M : Type 1} → statement M
+is-front-spec =
     tie.close
     (tie.spec
     enum-told

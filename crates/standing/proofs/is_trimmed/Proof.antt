@@ -1,11 +1,11 @@
--- `standing::zero_past` meets its contract.
+-- `standing::is_trimmed` meets its contract.
 -- Assumes nothing.
 use mathlib.Core.Path.{sym, _∙_}
 use borrow.Author.Needs.{needs}
 use borrow.Author.Tests.{not-true, not-false}
-use Rattle.soundness.specs.Clauses.{zeroPast}
-use Rattle.standing.proofs.zero_past.Statement.{statement}
-use Rattle.standing.proofs.zero_past.Tie as tie
+use Rattle.soundness.specs.Clauses.{isTrimmed}
+use Rattle.standing.proofs.is_trimmed.Statement.{statement}
+use Rattle.standing.proofs.is_trimmed.Tie as tie
 
 slice-aggregate-zeros-from : tie.Need-slice-aggregate-zeros-from
 slice-aggregate-zeros-from c = search needs
@@ -17,7 +17,7 @@ zeros-from-requires : tie.Need-zeros-from-requires
 zeros-from-requires c κs = search needs
 
 returns : tie.Need-returns
-unfolding zeroPast
+unfolding isTrimmed
 returns c =
     let z = c .before in
     rw (← z .before .wide .ensures, sym (z .zeros-from .ensures) ∙ not-true _ (c .if1 .taken))
@@ -32,7 +32,7 @@ zeros-from-requires-2 : tie.Need-zeros-from-requires-2
 zeros-from-requires-2 c κs = search needs
 
 returns-2 : tie.Need-returns-2
-unfolding zeroPast
+unfolding isTrimmed
 returns-2 c =
     let y = c .before in
     let n = y .before .before .before in
@@ -51,7 +51,7 @@ zeros-from-requires-3 : tie.Need-zeros-from-requires-3
 zeros-from-requires-3 c κs = search needs
 
 returns-3 : tie.Need-returns-3
-unfolding zeroPast
+unfolding isTrimmed
 returns-3 c =
     let x = c .before in
     let y = x .before .before .before .before in
@@ -72,7 +72,7 @@ zero-priorities-from-requires : tie.Need-zero-priorities-from-requires
 zero-priorities-from-requires c κs = search needs
 
 returns-4 : tie.Need-returns-4
-unfolding zeroPast
+unfolding isTrimmed
 returns-4 c =
     let x = c .before .before .before .before in
     let y = x .before .before .before .before in
@@ -86,8 +86,8 @@ returns-4 c =
       sym (x .zeros-from3 .ensures) ∙ not-false _ (c .before .before .before .if3 .left),
     ) (c .zero-priorities-from .ensures)
 
-pub zero-past-spec : {M : Type 1} → statement M
-zero-past-spec =
+pub is-trimmed-spec : {M : Type 1} → statement M
+is-trimmed-spec =
     tie.close
     (tie.spec
     slice-aggregate-zeros-from
