@@ -143,8 +143,8 @@ owed-quiet = refl
 
 -- AT THE CHARGE LIMIT
 
--- No log comes to such a state (Theorems, nineteen-never), so it is written out: client 0 is in service, with a charge one
--- below the limit.
+-- No log comes to such a state (Theorems, nineteen-never), so it is written out: client 0 is in service, with a charge
+-- one below the limit.
 abbrev pub nearLimit : State
 nearLimit = record {
   lines = λ (k : ℕ). cond (eqb k 0) (0 ∷ []) [];
