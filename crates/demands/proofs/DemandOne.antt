@@ -2,20 +2,24 @@
 -- Assumes nothing.
 use Prim.Native.Nat.{ℕ, _+_, _*_}
 use mathlib.Core.Path.{_≡_, refl, ap, _∙_}
-use mathlib.Core.Bool.{false, not, _||_}
+use mathlib.Core.Bool.{true, false, _||_}
+use lib.Dec.{eqb, ltb, leb}
 use mathlib.Core.List.{List, _++_}
-use mathlib.Core.Option.{Option}
-use lib.Dec.{eqb, ltb}
-use lib.IntN.{natAbs}
+use mathlib.Core.Option.{Option, some, none}
 use lib.ListN.{length}
 use borrow.Author.Tests.{ne-eqb}
-use Rattle.rules.specs.Limits.{maxLines}
+use Rattle.rules.specs.Limits.{maxClients}
 use Rattle.rules.specs.Refusals.{accepted, unsound, fieldOut, logCut}
-use Rattle.rules.specs.Setup.{setupAnswer}
-use Rattle.rules.specs.State.{fresh}
-use Rattle.rules.specs.Events.{Event}
+use Rattle.rules.specs.Setup as rules
+use Rattle.rules.specs.Setup.{realTime, clustersFit, firstBadSize, firstBadRow, setupAnswer}
+use Rattle.rules.specs.Lists.{has}
+use Rattle.rules.specs.State.{State, fresh, isIdle, isSpent}
+use Rattle.rules.specs.Queues.{waits}
+use Rattle.rules.specs.Events.{Event, invoke, run, reply, abort}
+use Rattle.rules.specs.Step.{present, overcharges, answer}
+use Rattle.rules.specs.Records.{answerOf}
 use Rattle.rules.specs.Replay.{entriesFrom}
-use Rattle.rules.specs.Quote.{Order, fieldsFit, firstFalse, budgetOf, quote}
+use Rattle.rules.specs.Quote.{Order, linesWrong, fieldWrong, budgetOver, quote}
 use Rattle.rules.proofs.Tests.{by-test}
 use Rattle.rules.proofs.Theorems.{refused-same}
 use Rattle.gate.specs.declared.Setup.{Setup}
@@ -28,10 +32,13 @@ use Rattle.soundness.proofs.Exact.{passed-laid, empty-fails}
 use Rattle.step.specs.Stepped.{Told, stepped}
 use Rattle.log.specs.declared.Opening.the-variants.{Records, Refused}
 use Rattle.log.specs.declared.Refusal.{Refusal}
+use Rattle.log.specs.declared.Refusal.the-variants.{Long, Short, BadMark, BadVersion, BadClusters, NoCap}
+use Rattle.log.specs.declared.Refusal.the-variants.{ManyClients, CutTables, BadSize, BadRow, CutRecord}
 use Rattle.log.specs.Opening.{told, setupIn, openingOf}
 use Rattle.log.specs.Reading.{recordSize}
 use Rattle.report.specs.Report.{heading, entryLines, refusedLine, whole, recordsIn, lastLines, replayed, reportOf}
 use Rattle.step.proofs.Doors.{step-sound}
+use Rattle.demands.specs.Numbers.{ofSetup, ofEvent, ofLog, ofOrder}
 
 -- An unsound gate is answered 19, and handed back.
 pub unsound-gate : (g : Gate) (o : Option Event) → soundOf g ≡ false
@@ -63,16 +70,16 @@ empty-gate o = unsound-gate emptyGate o empty-fails
 pub refused-order : (o : Order) → (quote o .answer ≡ accepted → ⊥) → quote o .budget ≡ 0
 unfolding quote
 refused-order o n =
-    by-test (ltb maxLines (length (o .calls)) || not (eqb (length (o .calls)) (length (o .caps)))) (λ a. rw a) λ a.
-    by-test (ltb (firstFalse (fieldsFit o)) (length (fieldsFit o))) (λ b. rw (a, b)) λ b.
-    by-test (ltb (natAbs (o .period)) (budgetOf o)) (λ d. rw (a, b, d)) (λ d. absurd (n (rw (a, b, d))))
+    by-test (linesWrong o) (λ a. rw a) λ a.
+    by-test (fieldWrong o) (λ b. rw (a, b)) λ b.
+    by-test (budgetOver o) (λ d. rw (a, b, d)) (λ d. absurd (n (rw (a, b, d))))
 
 pub place-of : (o : Order) → (quote o .answer ≡ fieldOut → ⊥) → quote o .place ≡ 0
 unfolding quote
 place-of o n =
-    by-test (ltb maxLines (length (o .calls)) || not (eqb (length (o .calls)) (length (o .caps)))) (λ a. rw a) λ a.
-    by-test (ltb (firstFalse (fieldsFit o)) (length (fieldsFit o))) (λ b. absurd (n (rw (a, b)))) λ b.
-    by-test (ltb (natAbs (o .period)) (budgetOf o)) (λ d. rw (a, b, d)) (λ d. rw (a, b, d))
+    by-test (linesWrong o) (λ a. rw a) λ a.
+    by-test (fieldWrong o) (λ b. absurd (n (rw (a, b)))) λ b.
+    by-test (budgetOver o) (λ d. rw (a, b, d)) (λ d. rw (a, b, d))
 
 -- A log refused before its records is answered by its number and offset alone ..
 pub refused-log : (l : List ℕ) (r : Refusal) → openingOf l ≡ Refused r → reportOf l ≡ refusedLine (told r)
@@ -87,3 +94,65 @@ pub cut-log : (l : List ℕ) (start : ℕ) → openingOf l ≡ Records start
     ++ refusedLine (record { number = logCut; offset = start + recordSize * whole l start }))
 unfolding reportOf replayed lastLines
 cut-log l start e n = rw (e, ne-eqb (start + recordSize * whole l start) (length l) n)
+
+-- EVERY NUMBER IS ONE OF DOCUMENT 01'S
+
+rules-number : (u : rules.Setup) (s : State) (o : Option Event) → has (answerOf u s o) ofEvent ≡ true
+unfolding answer
+rules-number u s none = refl
+rules-number u s (some (invoke c)) =
+    by-test (leb (u .clients) c) (λ a. rw a) λ a.
+    by-test (present u s c) (λ b. rw (a, b)) (λ b. rw (a, b))
+rules-number u s (some (run n)) =
+    by-test (eqb n 0) (λ a. rw a) λ a.
+    by-test (isIdle (s .server)) (λ b. rw (a, b)) λ b.
+    by-test (ltb (u .cap) (s .units + n)) (λ d. rw (a, b, d)) λ d.
+    by-test (overcharges u s n) (λ e. rw (a, b, d, e)) (λ e. rw (a, b, d, e))
+rules-number u s (some reply) = by-test (isIdle (s .server)) (λ a. rw a) (λ a. rw a)
+rules-number u s (some (abort c)) =
+    by-test (leb (u .clients) c) (λ a. rw a) λ a.
+    by-test (realTime u c) (λ b.
+    by-test (waits u s c || isSpent (s .server) c) (λ d.
+    by-test (isSpent (s .server) c) (λ e. rw (a, b, d, e)) (λ e. rw (a, b, d, e)))
+    (λ d. rw (a, b, d)))
+    (λ b. rw (a, b))
+
+-- A step answers 0 or 10 to 19, whatever gate and record it is handed,
+pub step-number : (g : Gate) (o : Option Event) → has (stepped g o .number) ofEvent ≡ true
+unfolding stepped
+step-number g o =
+    by-test (soundOf g) (λ h. rw h (rules-number (setupOf (g .setup)) (stateOf g) o)) (λ h. rw h)
+
+-- a setup 0 to 5,
+pub setup-number : (v : Setup) → has (made v .told .number) ofSetup ≡ true
+unfolding made verdictOf setupAnswer
+setup-number v =
+    let u = setupOf v in
+    by-test (clustersFit u) (λ a.
+    by-test (eqb (u .cap) 0) (λ b. rw (a, b)) λ b.
+    by-test (ltb maxClients (u .clients)) (λ d. rw (a, b, d)) λ d.
+    by-test (ltb (firstBadSize u) (u .clusters)) (λ e. rw (a, b, d, e)) λ e.
+    by-test (ltb (firstBadRow u) (u .clients)) (λ f. rw (a, b, d, e, f)) (λ f. rw (a, b, d, e, f)))
+    (λ a. rw a)
+
+-- an order 0 or 30 to 32,
+pub order-number : (o : Order) → has (quote o .answer) ofOrder ≡ true
+unfolding quote
+order-number o =
+    by-test (linesWrong o) (λ a. rw a) λ a.
+    by-test (fieldWrong o) (λ b. rw (a, b)) λ b.
+    by-test (budgetOver o) (λ d. rw (a, b, d)) (λ d. rw (a, b, d))
+
+-- and a refused log, or a cut record of it, 20 to 24 or what its setup is refused with.
+pub log-number : (r : Refusal) → has (told r .number) ofLog ≡ true
+log-number Long = refl
+log-number Short = refl
+log-number BadMark = refl
+log-number BadVersion = refl
+log-number BadClusters = refl
+log-number NoCap = refl
+log-number ManyClients = refl
+log-number CutTables = refl
+log-number (BadSize at) = refl
+log-number (BadRow at) = refl
+log-number (CutRecord at) = refl

@@ -1,27 +1,47 @@
--- Demand 2: which rule decides. From any sound gate an event leaves exactly what the rules give.
+-- Demand 2: which rule decides. From any sound gate an event leaves exactly what the rules give, and a quoted budget is
+-- exactly the formula.
 -- Assumes nothing.
 use mathlib.Core.Path.{_≡_, sym, ap, ap₂, _∙_}
 use mathlib.Core.Bool.{true}
 use mathlib.Core.Option.{Option}
+use Rattle.rules.specs.Refusals.{accepted}
 use Rattle.rules.specs.Events.{Event}
 use Rattle.rules.specs.Records.{answerOf, stepOf}
+use Rattle.rules.specs.Quote.{Order, budgetOf, acceptedQuote, quote, Fits}
+use Rattle.rules.proofs.Theorems.{accepted-exactly}
 use Rattle.gate.specs.declared.Gate.{Gate}
-use Rattle.gate.specs.Shown.{setupOf, stateOf, shown}
+use Rattle.gate.specs.Shown.{setupOf, shown}
 use Rattle.soundness.specs.Clauses.{soundOf}
+use Rattle.soundness.specs.Form.{ShowsSound}
+use Rattle.soundness.proofs.Exact.{sound-exact}
 use Rattle.events.specs.declared.Answer.{Answer}
 use Rattle.events.specs.declared.Answered.{Answered}
 use Rattle.events.proofs.Only.{one-answer}
 use Rattle.step.specs.Stepped.{Told, toldIn, stepped}
-use Rattle.step.proofs.Doors.{step-sound}
+use Rattle.demands.proofs.Steps.{step-shown}
 
-module _ (g : Gate) (sound : soundOf g ≡ true) (o : Option Event) where
+-- SOUND GATES
+
+-- A gate is sound if it is the padded form of a sound state of the rules over its own setup: `ShowsSound`, by the rules'
+-- own `Sound`. The test that the doors make says exactly that.
+pub test-exact : (g : Gate) → (soundOf g ≡ true → ShowsSound g) × (ShowsSound g → soundOf g ≡ true)
+test-exact = sound-exact
+
+module _ (g : Gate) (s : ShowsSound g) (o : Option Event) where
+  ruled : stepped g o
+      ≡ record {
+        number = answerOf (setupOf (g .setup)) (s .state) o;
+        gate = shown (g .setup) (stepOf (setupOf (g .setup)) (s .state) o);
+      }
+  ruled = ap (λ (x : Gate). stepped x o) (s .form) ∙ step-shown (g .setup) (s .state) o (s .sound)
+
   -- The gate after it is the shown form of the state that the rules give ..
-  pub leaves : stepped g o .gate ≡ shown (g .setup) (stepOf (setupOf (g .setup)) (stateOf g) o)
-  leaves = ap (λ (t : Told). t .gate) (step-sound g o sound)
+  pub leaves : stepped g o .gate ≡ shown (g .setup) (stepOf (setupOf (g .setup)) (s .state) o)
+  leaves = ap (λ (t : Told). t .gate) ruled
 
   -- .. and the number is the rules' own, so that it is refused exactly when they say so.
-  pub answers : stepped g o .number ≡ answerOf (setupOf (g .setup)) (stateOf g) o
-  answers = ap (λ (t : Told). t .number) (step-sound g o sound)
+  pub answers : stepped g o .number ≡ answerOf (setupOf (g .setup)) (s .state) o
+  answers = ap (λ (t : Told). t .number) ruled
 
 -- No second answer fits the promise of a step, whatever the gate.
 pub one-answer-fits : (g : Gate) (o : Option Event) (r t : Answered)
@@ -31,3 +51,10 @@ one-answer-fits g o r t e q =
     ap₂ (λ (a : Answer) (h : Gate). record { answer = a; gate = h })
     (one-answer (r .answer) (t .answer) (ap (λ (x : Told). x .number) same))
     (ap (λ (x : Told). x .gate) same)
+
+-- THE QUOTE
+
+-- An order is accepted exactly if none of 32, 30 and 31 applies (`Fits`), and then its budget is the formula.
+pub quoted-exactly : (o : Order)
+    → (quote o .answer ≡ accepted → Fits o) × (Fits o → quote o ≡ acceptedQuote (budgetOf o))
+quoted-exactly = accepted-exactly

@@ -1,12 +1,12 @@
 -- What the demands ask for is met: by a refused setup, by logs that are refused or cut, and by the gate of document
 -- 01's own log, which reaches both bounds of demand 3.
 -- Assumes nothing.
-use Prim.Native.Nat.{ℕ, _+_, _*_}
+use Prim.Native.Nat.{ℕ, _+_, _*_, _<_}
 use mathlib.Core.Path.{_≡_, refl, _∙_}
 use mathlib.Core.Bool.{false, true}
 use mathlib.Core.List.{List, [], _∷_, reverse}
 use native.Mathlib.Omega.{arith}
-use lib.ListN.{getD, length}
+use lib.ListN.{length}
 use Rattle.rules.specs.Refusals.{badClusters}
 use Rattle.rules.specs.Setup.{Accepted, realTime, setupAnswer}
 use Rattle.rules.specs.Rank.{outranks}
@@ -25,7 +25,7 @@ use Rattle.log.specs.declared.Refusal.the-variants.{Short}
 use Rattle.log.specs.Opening.{setupIn, headOf, tablesOf, openingOf}
 use Rattle.log.specs.Reading.{recordSize}
 use Rattle.report.specs.Report.{whole}
-use Rattle.demands.specs.Histories.{gateAfter}
+use Rattle.demands.specs.Histories.{chargeAfter}
 use Rattle.demands.proofs.DemandThree.{u, stored}
 
 -- DEMAND 1
@@ -72,8 +72,12 @@ pub client-real : realTime (u logBytes bytes-accepted) 1 ≡ true
 unfolding table trimmedIn zeroPast
 client-real = refl
 
+pub client-known : 1 < u logBytes bytes-accepted .clients
+unfolding trimmedIn
+client-known = omega arith
+
 -- m = 1, K = 1, L = 10: the gate has charged client 1 with (2 + 2)10 after the log ..
-pub reached : getD (gateAfter (made logBytes .gate) (reverse logRecords) .charges) 1 0 ≡ worst 1 1 10
+pub reached : chargeAfter (made logBytes .gate) (reverse logRecords) 1 ≡ worst 1 1 10
 unfolding table trimmedIn zeroPast eventOf answer next step outranks refill queue pick invoked ran replied aborted
 reached = stored logBytes bytes-accepted (reverse logRecords) 1 (omega arith) ∙ refl
 
@@ -82,6 +86,6 @@ pub not-struck : struck (u logBytes bytes-accepted) 1 (reverse quietRecords) ≡
 unfolding table trimmedIn zeroPast eventOf answer next step outranks refill queue pick invoked ran replied aborted
 not-struck = refl
 
-pub reached-unstruck : getD (gateAfter (made logBytes .gate) (reverse quietRecords) .charges) 1 0 ≡ worstUnstruck 1 1 10
+pub reached-unstruck : chargeAfter (made logBytes .gate) (reverse quietRecords) 1 ≡ worstUnstruck 1 1 10
 unfolding table trimmedIn zeroPast eventOf answer next step outranks refill queue pick invoked ran replied aborted
 reached-unstruck = stored logBytes bytes-accepted (reverse quietRecords) 1 (omega arith) ∙ refl

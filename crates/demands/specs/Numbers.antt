@@ -1,0 +1,27 @@
+-- The numbers of document 01 that each kind of thing can be answered with.
+-- Assumes nothing.
+use Prim.Native.Nat.{ℕ}
+use mathlib.Core.List.{List, [], _∷_}
+use Rattle.rules.specs.Refusals.{accepted, badClusters, noCap, manyClients, badSize, badRow, noClient}
+use Rattle.rules.specs.Refusals.{waitsAlready, serverIdle, runOfNone, runPastCap, notWaiting, bestEffort}
+use Rattle.rules.specs.Refusals.{spentAlready, unknownRecord, unsound, logShort, badMark, badVersion, logCut}
+use Rattle.rules.specs.Refusals.{logLong, fieldOut, overPeriod, badLines}
+
+-- 0, and 1 to 5
+abbrev pub ofSetup : List ℕ
+ofSetup = accepted ∷ badClusters ∷ noCap ∷ manyClients ∷ badSize ∷ badRow ∷ []
+
+-- 0, and 10 to 19
+abbrev pub ofEvent : List ℕ
+ofEvent =
+    accepted ∷ noClient ∷ waitsAlready ∷ serverIdle ∷ runOfNone ∷ runPastCap ∷ notWaiting ∷ bestEffort ∷ spentAlready ∷
+    unknownRecord ∷ unsound ∷ []
+
+-- 20 to 24, and a setup's own
+abbrev pub ofLog : List ℕ
+ofLog =
+    logShort ∷ badMark ∷ badVersion ∷ logCut ∷ logLong ∷ badClusters ∷ noCap ∷ manyClients ∷ badSize ∷ badRow ∷ []
+
+-- 0, and 30 to 32
+abbrev pub ofOrder : List ℕ
+ofOrder = accepted ∷ fieldOut ∷ overPeriod ∷ badLines ∷ []
