@@ -1,7 +1,7 @@
 -- The answers to events, from the tests that the code makes, in their order.
 -- Assumes nothing.
 use Prim.Native.Nat.{_+_, _<_, _≤_, ℕ}
-use mathlib.Core.Bool.{Bool, false, true}
+use mathlib.Core.Bool.{Bool, false, true, _||_}
 use mathlib.Core.Path.{_∙_, _≡_, ap, ap₂}
 use native.Mathlib.Omega.{arith}
 use lib.Dec.{leb, ltb}
@@ -61,24 +61,23 @@ module _ {v : Setup} {s : State} {g : Gate} (h : Shows v s g) where
         unfolding answer
         abort-effort t = rw (known-is, ← real-is, t)
 
-        module _ (real : r ≡ true) {p : Bool} (served : p ≡ isSpent (serverOf (g .server)) c) where
+        module _ (real : r ≡ true) {p : Bool} (served : p ≡ isSpent (serverOf (g .server)) c)
+            {w : Bool} (waiting : w ≡ waits (setupOf v) s c) where
           served-is : p ≡ isSpent (s .server) c
           served-is = served ∙ ap (λ x. isSpent x c) (h .server)
 
-          pub abort-spent : p ≡ true → answer (setupOf v) s (abort c) ≡ spentAlready
+          pub abort-absent : w || p ≡ false → answer (setupOf v) s (abort c) ≡ notWaiting
           unfolding answer
-          abort-spent t =
-              rw (known-is, ← real-is, real, ← served-is, t)
-              (by-test (waits (setupOf v) s c) (λ q. rw q) (λ q. rw q))
+          abort-absent t = rw (known-is, ← real-is, real, ← served-is, ← waiting, t)
 
-          module _ (other : p ≡ false) {w : Bool} (waiting : w ≡ waits (setupOf v) s c) where
-            pub abort-absent : w ≡ false → answer (setupOf v) s (abort c) ≡ notWaiting
+          module _ (there : w || p ≡ true) where
+            pub abort-spent : p ≡ true → answer (setupOf v) s (abort c) ≡ spentAlready
             unfolding answer
-            abort-absent t = rw (known-is, ← real-is, real, ← served-is, other, ← waiting, t)
+            abort-spent t = rw (known-is, ← real-is, real, ← served-is, ← waiting, there, t)
 
-            pub abort-fine : w ≡ true → answer (setupOf v) s (abort c) ≡ accepted
+            pub abort-fine : p ≡ false → answer (setupOf v) s (abort c) ≡ accepted
             unfolding answer
-            abort-fine t = rw (known-is, ← real-is, real, ← served-is, other, ← waiting, t)
+            abort-fine t = rw (known-is, ← real-is, real, ← served-is, ← waiting, there, t)
 
   -- RUN AND REPLY
 

@@ -164,7 +164,7 @@ pub fn reply(g: Gate) -> Answered
     }
 }
 
-// Abort c: 10, 16, 15, 17. A spent client does not wait, so either of the last two tests may come first.
+// Abort c: 10, 16, 15, 17.
 pub fn abort(g: Gate, c: Client) -> Answered
     requires { ⌜ Usable g ⌝ }
     ensures { λ r.
@@ -185,15 +185,17 @@ pub fn abort(g: Gate, c: Client) -> Answered
         };
     }
     let server = g.server;
-    if presence::is_spent(server, c) {
+    let spent = presence::is_spent(server, c);
+    let waits = presence::waits(g, c);
+    if !(waits | spent) {
         return Answered {
-            answer: Answer::SpentAlready,
+            answer: Answer::NotWaiting,
             gate: g,
         };
     }
-    if !presence::waits(g, c) {
+    if spent {
         return Answered {
-            answer: Answer::NotWaiting,
+            answer: Answer::SpentAlready,
             gate: g,
         };
     }

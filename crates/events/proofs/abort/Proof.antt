@@ -1,4 +1,4 @@
--- `events::abort` meets its contract: 10, 16, 17, 15, or the abort.
+-- `events::abort` meets its contract: 10, 16, 15, 17, or the abort.
 -- Assumes nothing.
 use native.Mathlib.Omega.{arith}
 use borrow.Author.Needs.{needs}
@@ -41,31 +41,32 @@ returns-2 c =
 is-spent-requires : tie.Need-is-spent-requires
 is-spent-requires c κs = search needs
 
-returns-3 : tie.Need-returns-3
-returns-3 c =
-    let r = c .before .before in
-    let t = r .before .before in
-    let a = t .before .before .before .before .args in
-    λ v s h sound.
-    refuses (abort (a .c .0)) SpentAlready h
-    (abort-spent h (a .c .0) (t .before .before .wide .ensures) (t .before .index .ensures) (t .if1 .left)
-    (r .before .is-real-time .ensures) (not-false _ (r .if2 .left)) (c .before .is-spent .ensures) (c .if3 .taken))
-    (λ z. omega arith)
-
 waits-requires : tie.Need-waits-requires
 waits-requires c κs = search needs
 
-returns-4 : tie.Need-returns-4
-returns-4 c =
-    let p = c .before .before in
-    let r = p .before .before in
+returns-3 : tie.Need-returns-3
+returns-3 c =
+    let w = c .before in
+    let r = w .before .before in
     let t = r .before .before in
     let a = t .before .before .before .before .args in
     λ v s h sound.
     refuses (abort (a .c .0)) NotWaiting h
     (abort-absent h (a .c .0) (t .before .before .wide .ensures) (t .before .index .ensures) (t .if1 .left)
-    (r .before .is-real-time .ensures) (not-false _ (r .if2 .left)) (p .before .is-spent .ensures) (p .if3 .left)
-    (c .before .waits .ensures v s h) (not-true _ (c .if4 .taken))) (λ z. omega arith)
+    (r .before .is-real-time .ensures) (not-false _ (r .if2 .left)) (w .before .is-spent .ensures)
+    (w .waits .ensures v s h) (not-true _ (c .if3 .taken))) (λ z. omega arith)
+
+returns-4 : tie.Need-returns-4
+returns-4 c =
+    let w = c .before .before in
+    let r = w .before .before in
+    let t = r .before .before in
+    let a = t .before .before .before .before .args in
+    λ v s h sound.
+    refuses (abort (a .c .0)) SpentAlready h
+    (abort-spent h (a .c .0) (t .before .before .wide .ensures) (t .before .index .ensures) (t .if1 .left)
+    (r .before .is-real-time .ensures) (not-false _ (r .if2 .left)) (w .before .is-spent .ensures)
+    (w .waits .ensures v s h) (not-false _ (c .before .if3 .left)) (c .if4 .taken)) (λ z. omega arith)
 
 aborted-requires : tie.Need-aborted-requires
 aborted-requires c κs = search needs
@@ -73,15 +74,15 @@ aborted-requires c κs = search needs
 returns-5 : tie.Need-returns-5
 unfolding next
 returns-5 c =
-    let p = c .before .before .before in
-    let r = p .before .before in
+    let w = c .before .before .before in
+    let r = w .before .before in
     let t = r .before .before in
     let a = t .before .before .before .before .args in
     λ v s h sound.
     accepts (abort (a .c .0))
     (abort-fine h (a .c .0) (t .before .before .wide .ensures) (t .before .index .ensures) (t .if1 .left)
-    (r .before .is-real-time .ensures) (not-false _ (r .if2 .left)) (p .before .is-spent .ensures) (p .if3 .left)
-    (c .before .before .waits .ensures v s h) (not-false _ (c .before .if4 .left)))
+    (r .before .is-real-time .ensures) (not-false _ (r .if2 .left)) (w .before .is-spent .ensures)
+    (w .waits .ensures v s h) (not-false _ (c .before .before .if3 .left)) (c .before .if4 .left))
     (c .aborted .ensures v s h (turn v s sound (a .c .0)))
 
 pub abort-spec : {M : Type 1} → statement M
@@ -94,8 +95,8 @@ abort-spec =
     is-real-time-requires
     returns-2
     is-spent-requires
-    returns-3
     waits-requires
+    returns-3
     returns-4
     aborted-requires
     returns-5)
