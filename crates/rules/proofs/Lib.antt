@@ -9,6 +9,7 @@ pub mod TellHistory
 pub mod TellLimits
 pub mod TellBounds
 pub mod TellBudgets
+pub mod Worked
 pub mod Table
 -- tests, lists and counts
 pub mod Tests

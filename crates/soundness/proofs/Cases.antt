@@ -109,6 +109,9 @@ unsound-gates :
     × Tells (usual ok (line (2 ∷ 1 ∷ [])) 0 (line (2 ∷ [])) (queue [])) false
     × Tells (gate ok (line (3 ∷ [])) 0 (line []) (queue []) (Front (client 3)) 0 1 30) false
     × Tells (two (line (2 ∷ []) ∷ []) [] (line [])) false × Tells (past (line (1 ∷ [])) 0) false
+    -- behind an unused place, somebody in the global queue, and in the background queue
+    × Tells (usual ok (line (2 ∷ [])) 2 (line (2 ∷ 255 ∷ 1 ∷ [])) (queue [])) false
+    × Tells (usual ok (line (2 ∷ [])) 2 (line (2 ∷ [])) (queue (255 ∷ 3 ∷ []))) false
     -- a real-time client in the background queue; a room not empty while the line is not full
     × Tells (usual ok (line (2 ∷ [])) 0 (line (2 ∷ [])) (queue (1 ∷ []))) false
     × Tells (usual (setup 2 0) (line (2 ∷ [])) 2 (line (2 ∷ [])) (queue [])) false
@@ -139,6 +142,8 @@ unfolding setupAnswer member setOf pad unpad usedFirst blank stateOf shown table
     setIn firstIn soundOf setupSound isTrimmed laid lineSound linesSound backgroundSound roomSound roomsSound
     globalSound chargesSound standSound restSound
 unsound-gates = (
+  refl,
+  refl,
   refl,
   refl,
   refl,
