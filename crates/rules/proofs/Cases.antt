@@ -18,7 +18,7 @@ use Rattle.rules.specs.Records.{Record, eventOf}
 use Rattle.rules.specs.Replay.{replayFrom, entriesFrom}
 use Rattle.rules.specs.History.{owed, struck}
 use Rattle.rules.specs.Demands.{worst, worstUnstruck}
-use Rattle.rules.specs.Quote.{Order, Quote, quote}
+use Rattle.rules.specs.Quote.{Order, orderOf, Quote, quote}
 use Rattle.rules.proofs.Table.{rt, be, given, invokes, runs, replies, aborts}
 use Rattle.rules.proofs.Table.{Case, caseOf, Shown, got, wanted}
 
@@ -43,8 +43,7 @@ wantedAt (order o q) = quoted q
 
 -- own work e, period p, m and K, and one server line of calls N and cap L
 abbrev pub oneLine : ℕ → ℕ → ℕ → ℕ → ℕ → ℤ → Order
-oneLine e p m K n l =
-    record { work = pos e; period = pos p; size = pos m; clusters = pos K; calls = pos n ∷ []; caps = l ∷ [] }
+oneLine e p m K n l = orderOf (pos e) (pos p) (pos m) (pos K) (pos n ∷ []) (l ∷ [])
 
 -- THE LOG
 

@@ -4,7 +4,7 @@
 use Prim.Native.Nat.{ℕ}
 use mathlib.Core.Path.{_≡_, refl}
 use mathlib.Core.List.{List, [], _∷_, map}
-use lib.IntN.{ℤ, pos, negℤ}
+use lib.IntN.{ℤ, pos, negsuc}
 use Rattle.rules.specs.Limits.{maxClusters, maxSize, maxClients, maxCap, maxCharge, unusedPlace}
 use Rattle.rules.specs.Limits.{maxWork, maxPeriod, maxLines, maxCalls}
 use Rattle.rules.specs.Refusals.{accepted, badClusters, noCap, manyClients, badSize, badRow, noClient}
@@ -12,7 +12,7 @@ use Rattle.rules.specs.Refusals.{waitsAlready, serverIdle, runOfNone, ru
 use Rattle.rules.specs.Refusals.{spentAlready, unknownRecord, unsound, logShort, badMark, badVersion, logCut}
 use Rattle.rules.specs.Refusals.{logLong, fieldOut, overPeriod, badLines}
 use Rattle.rules.specs.Setup.{Setup, setupAnswer}
-use Rattle.rules.specs.Quote.{Order, Quote, quote}
+use Rattle.rules.specs.Quote.{Order, orderOf, Quote, quote}
 use Rattle.rules.proofs.Table.{rt, be, given, Row}
 
 -- NUMBERS
@@ -83,11 +83,6 @@ setupCases-hold = refl
 
 -- ORDERS
 
--- own work e, period p, m and K, calls and caps
-abbrev pub orderOf : ℤ → ℤ → ℤ → ℤ → List ℤ → List ℤ → Order
-orderOf e p m K calls caps =
-    record { work = e; period = p; size = m; clusters = K; calls = calls; caps = caps }
-
 -- no server lines
 abbrev pub bare : ℕ → ℕ → ℕ → ℕ → Order
 bare e p m K = orderOf (pos e) (pos p) (pos m) (pos K) [] []
@@ -115,7 +110,7 @@ quoteCases =
     -- e from 1 to 1,000,000,000
     quoted (bare 0 9 1 1) 0 30 0 ∷ quoted (bare 1 9 1 1) 1 0 0 ∷
     quoted (bare 1000000000 200000000000 1 1) 1000000000 0 0 ∷ quoted (bare 1000000001 200000000000 1 1) 0 30 0 ∷
-    quoted (orderOf (negℤ (pos 1)) (pos 9) (pos 1) (pos 1) [] []) 0 30 0 ∷
+    quoted (orderOf (negsuc 0) (pos 9) (pos 1) (pos 1) [] []) 0 30 0 ∷
     -- p from 1 to 200,000,000,000
     quoted (bare 1 0 1 1) 0 30 1 ∷ quoted (bare 1 1 1 1) 1 0 0 ∷ quoted (bare 1 200000000000 1 1) 1 0 0 ∷
     quoted (bare 1 200000000001 1 1) 0 30 1 ∷
@@ -123,7 +118,7 @@ quoteCases =
     quoted (bare 1 9 0 1) 0 30 2 ∷ quoted (bare 1 9 8 1) 1 0 0 ∷ quoted (bare 1 9 9 1) 0 30 2 ∷
     quoted (bare 1 9 1 0) 0 30 3 ∷ quoted (bare 1 9 1 8) 1 0 0 ∷ quoted (bare 1 9 1 9) 0 30 3 ∷
     -- N from 0 to 1,000: N = 0 costs nothing
-    quoted (oneLine (negℤ (pos 1)) (pos 10)) 0 30 4 ∷ quoted (oneLine (pos 0) (pos 10)) 1 0 0 ∷
+    quoted (oneLine (negsuc 0) (pos 10)) 0 30 4 ∷ quoted (oneLine (pos 0) (pos 10)) 1 0 0 ∷
     quoted (oneLine (pos 1000) (pos 10)) 40001 0 0 ∷ quoted (oneLine (pos 1001) (pos 10)) 0 30 4 ∷
     -- L from 1 to 65,535, also where N is 0
     quoted (oneLine (pos 0) (pos 0)) 0 30 5 ∷ quoted (oneLine (pos 1) (pos 1)) 5 0 0 ∷
@@ -132,6 +127,11 @@ quoteCases =
     quoted (orderOf (pos 7) (pos 71) (pos 1) (pos 1) (pos 2 ∷ pos 1 ∷ []) (pos 3 ∷ pos 10 ∷ [])) 71 0 0 ∷
     quoted (orderOf (pos 7) (pos 71) (pos 1) (pos 1) (pos 2 ∷ pos 1001 ∷ []) (pos 3 ∷ pos 0 ∷ [])) 0 30 6 ∷
     quoted (orderOf (pos 7) (pos 71) (pos 1) (pos 1) (pos 2 ∷ pos 1 ∷ []) (pos 3 ∷ pos 0 ∷ [])) 0 30 7 ∷
+    -- all of them at their largest
+    quoted (orderOf (pos 1000000000) (pos 200000000000) (pos 8) (pos 8) (pos 1000 ∷ []) (pos 65535 ∷ [])) 9519550000 0 0 ∷
+    -- 64-bit extremes
+    quoted (orderOf (pos 1) (pos 1) (pos 1) (negsuc 9223372036854775807) [] []) 0 30 3 ∷
+    quoted (orderOf (pos 1) (pos 1) (pos 1) (pos 9223372036854775807) [] []) 0 30 3 ∷
     -- m and K in the formula: 1 + 1(2 + 2 * 3 * 5)2
     quoted (orderOf (pos 1) (pos 65) (pos 3) (pos 5) (pos 1 ∷ []) (pos 2 ∷ [])) 65 0 0 ∷
     -- one unit over the period

@@ -20,6 +20,10 @@ pub record Order : Type 0 where
   pub calls : List ℤ
   pub caps : List ℤ
 
+-- the six in that order
+abbrev pub orderOf : ℤ → ℤ → ℤ → ℤ → List ℤ → List ℤ → Order
+orderOf e p m K calls caps = record { work = e; period = p; size = m; clusters = K; calls = calls; caps = caps }
+
 pub record Quote : Type 0 where
   pub budget : ℕ
   pub answer : ℕ
