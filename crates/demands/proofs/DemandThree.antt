@@ -69,8 +69,8 @@ module _ (v : Setup) (a : Accepted (setupOf v)) where
   -- THE DEMAND
 
   -- What a client's charge is after some records: the sum over the history, at most (2 + 2mK)L, and at most (1 + 2mK)L
-  -- where no accepted abort hit its own cluster's request in service while it was in the waiting room, and so where none
-  -- did during its wait.
+  -- where no accepted abort hit its own cluster's request in service while it was in the waiting room, and so where
+  -- none did during its wait.
   pub record Within (h : List Record) (c : ℕ) : Type 0 where
     pub is-sum : chargeAfter (made v .gate) h c ≡ owed u c h
     pub at-most : chargeAfter (made v .gate) h c ≤ worst (u .size (u .cluster c)) (u .clusters) (service u)
@@ -98,8 +98,8 @@ module _ (v : Setup) (a : Accepted (setupOf v)) where
       → owedInAll u c h ≤ calls u c h * worst (u .size (u .cluster c)) (u .clusters) (service u)
   charged-in-all h c r = bounded-in-all u (sound-after [] .setup) h c r
 
--- .. so where an accepted order's N are not passed, e and all that was charged are within its budget, and that is within
--- the period.
+-- .. so where an accepted order's N are not passed, e and all that was charged are within its budget, and that is
+-- within the period.
 pub budget-covers : (o : Order) (xs : List Use) → quote o .answer ≡ accepted → Keeps o xs
     → (natAbs (o .work) + chargedFor xs ≤ quote o .budget) × (quote o .budget ≤ natAbs (o .period))
 budget-covers = within-budget

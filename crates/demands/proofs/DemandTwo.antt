@@ -22,8 +22,8 @@ use Rattle.demands.proofs.Steps.{step-shown}
 
 -- SOUND GATES
 
--- A gate is sound if it is the padded form of a sound state of the rules over its own setup: `ShowsSound`, by the rules'
--- own `Sound`. The test that the doors make says exactly that.
+-- A gate is sound if it is the padded form of a sound state of the rules over its own setup: `ShowsSound`, by the
+-- rules' own `Sound`. The test that the doors make says exactly that.
 pub test-exact : (g : Gate) → (soundOf g ≡ true → ShowsSound g) × (ShowsSound g → soundOf g ≡ true)
 test-exact = sound-exact
 

@@ -1,4 +1,4 @@
--- What follows from the definitions. A reader begins with Theorems, Cases and the tables of what wrong readings would give.
+-- What follows from the definitions. A reader begins with Theorems, then Cases and the tables of wrong readings.
 pub mod Theorems
 pub mod Cases
 pub mod TellOrder

@@ -41,4 +41,5 @@ module _ (u : Setup) (c : ℕ) where
 
   pub unstruck-in-room : (h : List Record) → struck u c h ≡ false → struckInRoom u c h ≡ false
   unstruck-in-room [] e = refl
-  unstruck-in-room (r ∷ h) e = kept-so (eventOf r) (after u h) (struck u c h) (struckInRoom u c h) (unstruck-in-room h) e
+  unstruck-in-room (r ∷ h) e =
+      kept-so (eventOf r) (after u h) (struck u c h) (struckInRoom u c h) (unstruck-in-room h) e

@@ -51,8 +51,8 @@ pub two-accepted : setupAnswer twoByTwo ≡ 0
 unfolding setupAnswer
 two-accepted = refl
 
--- Client 2 finds client 5 in service, client 4 queued, and its line taken by 0 and 3. Each turn of its line costs one of
--- cluster 1 too.
+-- Client 2 finds client 5 in service, client 4 queued, and its line taken by 0 and 3. Each turn of its line costs one
+-- of cluster 1 too.
 abbrev pub begun : List Record
 begun =
     invokes 5 ∷ invokes 4 ∷ invokes 0 ∷ invokes 3 ∷ invokes 2 ∷ runs 10 ∷ replies ∷ runs 10 ∷ replies ∷ runs 10 ∷
@@ -61,7 +61,8 @@ begun =
 -- Nobody is aborted: client 2 follows client 1 in the line.
 abbrev pub quiet : List Record
 quiet =
-    begun ++ (invokes 4 ∷ replies ∷ runs 10 ∷ replies ∷ runs 10 ∷ invokes 4 ∷ replies ∷ runs 10 ∷ replies ∷ runs 10 ∷ [])
+    begun ++ (invokes 4 ∷ replies ∷ runs 10 ∷ replies ∷ runs 10 ∷ invokes 4 ∷ replies ∷ runs 10 ∷ replies ∷ runs 10 ∷
+    [])
 
 -- Client 0 is back and takes the free place of the line, so that 2 is still in the room when client 1 is aborted in
 -- service.

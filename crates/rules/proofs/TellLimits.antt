@@ -27,7 +27,8 @@ pub numbers-are :
     accepted ∷ badClusters ∷ noCap ∷ manyClients ∷ badSize ∷ badRow ∷ noClient ∷ waitsAlready ∷ serverIdle ∷
     runOfNone ∷ runPastCap ∷ notWaiting ∷ bestEffort ∷ spentAlready ∷ unknownRecord ∷ unsound ∷ logShort ∷ badMark ∷
     badVersion ∷ logCut ∷ logLong ∷ fieldOut ∷ overPeriod ∷ badLines ∷ []
-    ≡ 0 ∷ 1 ∷ 2 ∷ 3 ∷ 4 ∷ 5 ∷ 10 ∷ 11 ∷ 12 ∷ 13 ∷ 14 ∷ 15 ∷ 16 ∷ 17 ∷ 18 ∷ 19 ∷ 20 ∷ 21 ∷ 22 ∷ 23 ∷ 24 ∷ 30 ∷ 31 ∷ 32 ∷ []
+    ≡ 0 ∷ 1 ∷ 2 ∷ 3 ∷ 4 ∷ 5 ∷ 10 ∷ 11 ∷ 12 ∷ 13 ∷ 14 ∷ 15 ∷ 16 ∷ 17 ∷ 18 ∷ 19 ∷ 20 ∷ 21 ∷ 22 ∷ 23 ∷ 24 ∷ 30 ∷ 31 ∷
+    32 ∷ []
 numbers-are = refl
 
 -- SETUPS
@@ -128,7 +129,8 @@ quoteCases =
     quoted (orderOf (pos 7) (pos 71) (pos 1) (pos 1) (pos 2 ∷ pos 1001 ∷ []) (pos 3 ∷ pos 0 ∷ [])) 0 30 6 ∷
     quoted (orderOf (pos 7) (pos 71) (pos 1) (pos 1) (pos 2 ∷ pos 1 ∷ []) (pos 3 ∷ pos 0 ∷ [])) 0 30 7 ∷
     -- all of them at their largest
-    quoted (orderOf (pos 1000000000) (pos 200000000000) (pos 8) (pos 8) (pos 1000 ∷ []) (pos 65535 ∷ [])) 9519550000 0 0 ∷
+    quoted (orderOf (pos 1000000000) (pos 200000000000) (pos 8) (pos 8) (pos 1000 ∷ []) (pos 65535 ∷ []))
+    9519550000 0 0 ∷
     -- 64-bit extremes
     quoted (orderOf (pos 1) (pos 1) (pos 1) (negsuc 9223372036854775807) [] []) 0 30 3 ∷
     quoted (orderOf (pos 1) (pos 1) (pos 1) (pos 9223372036854775807) [] []) 0 30 3 ∷

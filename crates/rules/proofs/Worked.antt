@@ -41,7 +41,8 @@ module _ (u : Setup) (c : ℕ) where
 
 pub log-accounts : accounts logSetup 1 [] logRecords
     ≡ account 0 0 30 ∷ account 0 0 30 ∷ account 0 20 20 ∷ account 10 10 20 ∷ account 10 10 20 ∷ account 20 0 20
-    ∷ account 20 0 20 ∷ account 20 0 20 ∷ account 20 20 40 ∷ account 30 10 40 ∷ account 30 10 40 ∷ account 40 0 40 ∷ account 40 0 40 ∷ []
+    ∷ account 20 0 20 ∷ account 20 0 20 ∷ account 20 20 40 ∷ account 30 10 40 ∷ account 30 10 40 ∷ account 40 0 40
+    ∷ account 40 0 40 ∷ []
 unfolding eventOf answer next step outranks refill queue pick invoked ran replied aborted
 log-accounts = refl
 

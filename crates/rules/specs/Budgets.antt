@@ -23,8 +23,8 @@ pub record Use : Type 0 where
   pub client : ℕ
   pub records : List Record
 
--- The use keeps to one line of an order: a gate with the order's m and K and the line's cap L, and at most its N accepted
--- invokes.
+-- The use keeps to one line of an order: a gate with the order's m and K and the line's cap L, and at most its N
+-- accepted invokes.
 pub record KeepsLine (m K n l : ℕ) (x : Use) : Type 0 where
   pub gate : Accepted (x .setup)
   pub real : realTime (x .setup) (x .client) ≡ true

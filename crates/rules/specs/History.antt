@@ -23,7 +23,8 @@ module _ (u : Setup) where
 
   -- WHAT IS KEPT ALONG A HISTORY
 
-  -- `change s e x`: what becomes of x with an accepted event e that found the state s. A refused record changes nothing.
+  -- `change s e x`: what becomes of x with an accepted event e that found the state s. A refused record changes
+  -- nothing.
   abbrev pub changed : {A : Type 0} → (State → Event → A → A) → State → Option Event → A → A
   changed change s none x = x
   changed change s (some e) x = cond (eqb (answer u s e) accepted) (change s e x) x
