@@ -19,8 +19,9 @@ use Rattle.rules.specs.Events.{Event, invoke, run, reply, abort}
 use Rattle.rules.specs.Step.{present, overcharges, answer}
 use Rattle.rules.specs.Records.{answerOf}
 use Rattle.rules.specs.Replay.{entriesFrom}
-use Rattle.rules.specs.Quote.{Order, linesWrong, fieldWrong, budgetOver, quote}
+use Rattle.rules.specs.Quote.{Order, quote}
 use Rattle.rules.proofs.Tests.{by-test}
+use Rattle.rules.proofs.Quotes.{quote-cases}
 use Rattle.rules.proofs.Theorems.{refused-same}
 use Rattle.gate.specs.declared.Setup.{Setup}
 use Rattle.gate.specs.declared.Gate.{Gate}
@@ -68,18 +69,14 @@ empty-gate o = unsound-gate emptyGate o empty-fails
 
 -- A refused order quotes 0, and its place is 0 in every answer but 30.
 pub refused-order : (o : Order) → (quote o .answer ≡ accepted → ⊥) → quote o .budget ≡ 0
-unfolding quote
-refused-order o n =
-    by-test (linesWrong o) (λ a. rw a) λ a.
-    by-test (fieldWrong o) (λ b. rw (a, b)) λ b.
-    by-test (budgetOver o) (λ d. rw (a, b, d)) (λ d. absurd (n (rw (a, b, d))))
+refused-order o =
+    quote-cases o (λ q. (q .answer ≡ accepted → ⊥) → q .budget ≡ 0)
+    (λ n. refl) (λ n. refl) (λ n. refl) (λ f n. absurd (n refl))
 
 pub place-of : (o : Order) → (quote o .answer ≡ fieldOut → ⊥) → quote o .place ≡ 0
-unfolding quote
-place-of o n =
-    by-test (linesWrong o) (λ a. rw a) λ a.
-    by-test (fieldWrong o) (λ b. absurd (n (rw (a, b)))) λ b.
-    by-test (budgetOver o) (λ d. rw (a, b, d)) (λ d. rw (a, b, d))
+place-of o =
+    quote-cases o (λ q. (q .answer ≡ fieldOut → ⊥) → q .place ≡ 0)
+    (λ n. refl) (λ n. absurd (n refl)) (λ n. refl) (λ f n. refl)
 
 -- A log refused before its records is answered by its number and offset alone ..
 pub refused-log : (l : List ℕ) (r : Refusal) → openingOf l ≡ Refused r → reportOf l ≡ refusedLine (told r)
@@ -137,11 +134,7 @@ setup-number v =
 
 -- an order 0 or 30 to 32,
 pub order-number : (o : Order) → has (quote o .answer) ofOrder ≡ true
-unfolding quote
-order-number o =
-    by-test (linesWrong o) (λ a. rw a) λ a.
-    by-test (fieldWrong o) (λ b. rw (a, b)) λ b.
-    by-test (budgetOver o) (λ d. rw (a, b, d)) (λ d. rw (a, b, d))
+order-number o = quote-cases o (λ q. has (q .answer) ofOrder ≡ true) refl refl refl (λ f. refl)
 
 -- and a refused log, or a cut record of it, 20 to 24 or what its setup is refused with.
 pub log-number : (r : Refusal) → has (told r .number) ofLog ≡ true

@@ -12,8 +12,9 @@ use lib.ListN.{length}
 use borrow.Author.Tests.{eqb-true, eq-eqb, ltb-false, le-ltb, not-false}
 use Rattle.rules.specs.Limits.{maxLines}
 use Rattle.rules.specs.Refusals.{accepted, fieldOut, overPeriod, badLines}
-use Rattle.rules.specs.Quote.{Order, fieldsFit, firstFalse, burnt, budgetOf}
-use Rattle.rules.specs.Quote.{linesWrong, fieldWrong, budgetOver, acceptedQuote, quote, AllTrue, Fits}
+use Rattle.rules.specs.Quote.{Order, Quote, fieldsFit, firstFalse, burnt, budgetOf}
+use Rattle.rules.specs.Quote.{linesWrong, fieldWrong, budgetOver, refusedQuote, acceptedQuote, quote}
+use Rattle.rules.specs.Quote.{AllTrue, Fits}
 use Rattle.rules.specs.History.{owedInAll, calls}
 use Rattle.rules.specs.Demands.{worst}
 use Rattle.rules.specs.Budgets.{Use, KeepsLine, KeepLines, Keeps, chargedFor}
@@ -32,13 +33,9 @@ none-false [] h = omega arith
 none-false (b ∷ bs) h = rw (h .0) (omega (arith, none-false bs (h .1)))
 
 module _ (o : Order) where
-  -- accepted only if it fits ..
-  pub accepted-fits : quote o .answer ≡ accepted → Fits o
-  unfolding quote
-  accepted-fits e =
-      by-test (linesWrong o) (λ a. let y : badLines ≡ accepted = rw a at e in absurd (omega arith)) λ a.
-      by-test (fieldWrong o) (λ b. let y : fieldOut ≡ accepted = rw (a, b) at e in absurd (omega arith)) λ b.
-      by-test (budgetOver o) (λ d. let y : overPeriod ≡ accepted = rw (a, b, d) at e in absurd (omega arith)) λ d.
+  -- none of the three tests applies
+  tests-fit : linesWrong o ≡ false → fieldWrong o ≡ false → budgetOver o ≡ false → Fits o
+  tests-fit a b d =
       let l = both-false (ltb maxLines (length (o .calls))) (not (eqb (length (o .calls)) (length (o .caps)))) a in
       record {
         lines = ltb-false maxLines (length (o .calls)) (l .0);
@@ -46,6 +43,22 @@ module _ (o : Order) where
         fields = all-true (fieldsFit o) (ltb-false (firstFalse (fieldsFit o)) (length (fieldsFit o)) b);
         period = ltb-false (natAbs (o .period)) (budgetOf o) d;
       }
+
+  -- 32, 30, 31, or accepted
+  pub quote-cases {ℓ} : (P : Quote → Type ℓ) → P (refusedQuote badLines 0)
+      → P (refusedQuote fieldOut (firstFalse (fieldsFit o))) → P (refusedQuote overPeriod 0)
+      → (Fits o → P (acceptedQuote (budgetOf o))) → P (quote o)
+  unfolding quote
+  quote-cases P f g h k =
+      by-test (linesWrong o) (λ a. rw a f) λ a.
+      by-test (fieldWrong o) (λ b. rw (a, b) g) λ b.
+      by-test (budgetOver o) (λ d. rw (a, b, d) h) (λ d. rw (a, b, d) (k (tests-fit a b d)))
+
+  -- accepted only if it fits ..
+  pub accepted-fits : quote o .answer ≡ accepted → Fits o
+  accepted-fits =
+      quote-cases (λ q. q .answer ≡ accepted → Fits o)
+      (λ e. absurd (omega arith)) (λ e. absurd (omega arith)) (λ e. absurd (omega arith)) (λ f e. f)
 
   -- .. and if it fits, with the formula as its budget
   pub fits-quoted : Fits o → quote o ≡ acceptedQuote (budgetOf o)
