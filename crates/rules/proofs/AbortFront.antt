@@ -15,7 +15,7 @@ use Rattle.rules.specs.State.{State, front, spent, isFront, blocks, with
 use Rattle.rules.specs.Rank.{Rank}
 use Rattle.rules.specs.Queues.{join}
 use Rattle.rules.specs.Events.{abort, spend}
-use Rattle.rules.specs.History.{strikes}
+use Rattle.rules.specs.History.{strikesInRoom}
 use Rattle.rules.proofs.Tests.{by-test, clash, not-so, both-false}
 use Rattle.rules.proofs.Lists.{distinct-right, heads-length}
 use Rattle.rules.proofs.Lists.{remove-none}
@@ -56,16 +56,16 @@ module _ (u : Setup) (rank : Rank) (c : ℕ) (s : State) (i : InOrder u s) where
           (weaken u (but (u .cluster c)) (s .lines) (spent c) (s .global) held))
 
       -- who is in a room and is not struck is of another cluster
-      elsewhere : (x : ℕ) (f : Bool) → s .room x ≡ true → strikes u x s (abort c) || f ≡ false
+      elsewhere : (x : ℕ) (f : Bool) → s .room x ≡ true → strikesInRoom u x s (abort c) || f ≡ false
           → eqb (u .cluster c) (u .cluster x) ≡ false
       elsewhere x f z h =
           by-test (eqb (u .cluster c) (u .cluster x))
           (λ q.
           let n : eqb c x ≡ false = ne-eqb c x (λ w. clash z (rw (← w) out)) in
-          clash (rw (i .lined .in-room x z .apart, z, n, e, eq-eqb c c refl, q)) h)
+          clash (rw (z, n, e, eq-eqb c c refl, q)) h)
           (λ q. q)
 
-      pub spent-goes : (x : ℕ) (f : Bool) → Goes u rank s (put l r (spend c s)) x f (strikes u x s (abort c) || f)
+      pub spent-goes : (x : ℕ) (f : Bool) → Goes u rank s (put l r (spend c s)) x f (strikesInRoom u x s (abort c) || f)
       spent-goes x f =
           record {
             in-order = record {
@@ -75,12 +75,12 @@ module _ (u : Setup) (rank : Rank) (c : ℕ) (s : State) (i : InOrder u s) where
               rests = λ z. spent-idle c z;
               units-fit = i .units-fit;
             };
-            passes = left-passes u rank c s i l r g (spend c s) x f (strikes u x s (abort c) || f)
+            passes = left-passes u rank c s i l r g (spend c s) x f (strikesInRoom u x s (abort c) || f)
                 (front-shifts u rank c s i l r g (spend c s) first-now
                 (λ n. rw (eq-eqb (u .cluster c) (u .cluster c) refl) (omega arith)))
                 (λ j n z. rw (e, ne-eqb (u .cluster c) j (λ q. n (sym q))) (omega arith))
                 refl
-                (λ z. both-false (strikes u x s (abort c)) f z .1)
+                (λ z. both-false (strikesInRoom u x s (abort c)) f z .1)
                 (λ a b. rw (elsewhere x f a b) (omega arith));
           }
 

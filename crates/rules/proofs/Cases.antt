@@ -8,7 +8,6 @@ use mathlib.Core.Option.{some, none}
 use native.Mathlib.Omega.{arith}
 use lib.Dec.{eqb}
 use lib.IntN.{ℤ, pos, negℤ}
-use Rattle.rules.specs.Refusals.{accepted, unsound}
 use Rattle.rules.specs.Setup.{Setup, setupAnswer, service, Accepted}
 use Rattle.rules.specs.State.{State, front}
 use Rattle.rules.specs.Rank.{outranks}
@@ -156,11 +155,11 @@ nearLimit = record {
   charge = λ (c : ℕ). cond (eqb c 0) 16777214 0;
 }
 
-pub at-limit : answer logSetup nearLimit (run 1) ≡ accepted
+pub at-limit : answer logSetup nearLimit (run 1) ≡ 0
 unfolding answer outranks
 at-limit = refl
 
 -- one unit more is 19
-pub past-limit : answer logSetup nearLimit (run 2) ≡ unsound
+pub past-limit : answer logSetup nearLimit (run 2) ≡ 19
 unfolding answer outranks
 past-limit = refl

@@ -19,7 +19,7 @@ use Rattle.rules.specs.Events.{Event, invoke, run, reply, abort, behind,
 use Rattle.rules.specs.Events.{ran, gone, ended, replied, left, spend, unqueue, aborted}
 use Rattle.rules.specs.Step.{answer, next, step}
 use Rattle.rules.specs.Records.{Record, eventOf, stepOf}
-use Rattle.rules.specs.History.{after, begins, adds, owedWith, owed}
+use Rattle.rules.specs.History.{after, changed, begins, adds, owes, owed}
 use Rattle.rules.proofs.Tests.{by-test}
 use Rattle.rules.proofs.Pick.{start-charge}
 
@@ -127,6 +127,6 @@ module _ (u : Setup) where
       told e false i = i
 
       go : (o : Option Event) → after u h .charge c ≡ owed u c h
-          → stepOf u (after u h) o .charge c ≡ owedWith u c (after u h) o (owed u c h)
+          → stepOf u (after u h) o .charge c ≡ changed u (owes u c) (after u h) o (owed u c h)
       go none i = i
       go (some e) i = told e (eqb (answer u (after u h) e) accepted) i

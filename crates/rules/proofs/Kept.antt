@@ -41,7 +41,7 @@ module _ (u : Setup) where
     abbrev pub lower : ℕ → ℕ → Bool
     lower c x = not (rank x c)
 
-    -- `f`: an abort hit the cluster's request in service during the wait
+    -- `f`: an abort hit the cluster's request in service while c was in the room
     pub record Kept (s : State) (c : ℕ) (f : Bool) : Type 0 where
       pub in-room : s .room c ≡ true
           → s .charge c + dueIn s c (inTheWay s c f) (lower c) ≤ service u + rounds c

@@ -1,9 +1,14 @@
--- What follows from the definitions. A reader begins with Theorems, Cases and the three tables of wrong gates.
+-- What follows from the definitions. A reader begins with Theorems, Cases and the tables of what wrong readings would give.
 pub mod Theorems
 pub mod Cases
 pub mod TellOrder
 pub mod TellCharge
 pub mod TellRefusal
+pub mod TellSound
+pub mod TellHistory
+pub mod TellLimits
+pub mod TellBounds
+pub mod TellBudgets
 pub mod Table
 -- tests, lists and counts
 pub mod Tests
@@ -40,8 +45,14 @@ pub mod Placed
 pub mod PlacedInvoke
 -- every event and every history
 pub mod Charge
+pub mod Struck
 pub mod SoundStates
 pub mod Steps
 pub mod Reached
 pub mod Limit
+pub mod Bounded
 pub mod Replays
+-- all waits of a client, and the quote
+pub mod Waits
+pub mod Budgets
+pub mod Quotes

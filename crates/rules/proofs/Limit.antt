@@ -19,7 +19,7 @@ use Rattle.rules.specs.Queues.{waits}
 use Rattle.rules.specs.Events.{Event, invoke, run, reply, abort, charged, ran}
 use Rattle.rules.specs.Step.{present, overcharges, answer}
 use Rattle.rules.specs.Records.{Record, eventOf, answerOf}
-use Rattle.rules.specs.History.{after, struck}
+use Rattle.rules.specs.History.{after, struckInRoom}
 use Rattle.rules.specs.Demands.{worst}
 use Rattle.rules.proofs.Tests.{by-test, not-given}
 use Rattle.rules.proofs.Counts.{some-not}
@@ -55,9 +55,9 @@ module _ (u : Setup) (a : Accepted u) where
       small c k e =
           let i = reached u a (by-priority u) h in
           let real = charged-facts u (outranks u s) s c e .real in
-          let now = run-kept u (outranks u s) s n fits c (struck u c h) (i .in-order) (i .kept c real) in
+          let now = run-kept u (outranks u s) s n fits c (struckInRoom u c h) (i .in-order) (i .kept c real) in
           let w : s .charge c + n ≤ worst (u .size (u .cluster c)) (u .clusters) (service u) =
-          rw e at (kept-worst u (outranks u s) (ran u (outranks u s) n s) c (struck u c h) now) in
+          rw e at (kept-worst u (outranks u s) (ran u (outranks u s) n s) c (struckInRoom u c h) now) in
           omega (arith, worst-small c k)
 
   pub never-unsound : (h : List Record) (r : Record) → answerOf u (after u h) (eventOf r) ≡ unsound → ⊥

@@ -47,7 +47,8 @@ module _ (u : Setup) where
       (last p t) (last p (s′ .lines (u .cluster c))) (p x) (a p f) h
       (λ o. b (omega (arith, last-le p (s′ .lines (u .cluster c))))) g)
 
-  -- what such an event does to a client c; f and f′: whether an abort has hit its cluster's request in service
+  -- what such an event does to a client c; f and f′: whether an abort has hit its cluster's request in service while it
+  -- was in the room
   pub record Passes (rank : Rank) (s s′ : State) (c : ℕ) (f f′ : Bool) : Type 0 where
     pub falls : Falls s s′ (u .cluster c)
     pub same-charge : s′ .charge c ≡ s .charge c

@@ -16,7 +16,7 @@ use Rattle.rules.specs.Sound.{Sound}
 use Rattle.rules.specs.Events.{Event}
 use Rattle.rules.specs.Step.{answer, step}
 use Rattle.rules.specs.Records.{Record, eventOf, stepOf}
-use Rattle.rules.specs.History.{after, struckWith, struck}
+use Rattle.rules.specs.History.{after, changed, strikesInRoom, passedIn, struckInRoom}
 use Rattle.rules.proofs.Tests.{by-test, clash}
 use Rattle.rules.proofs.Ranking.{Ranking}
 use Rattle.rules.proofs.Setups.{valid}
@@ -65,7 +65,7 @@ module _ (u : Setup) where
 
   -- EVERY HISTORY
 
-  -- `f x`: an abort hit the request in service of x's cluster during its latest wait
+  -- `f x`: an abort hit the request in service of x's cluster while x was in the waiting room, in its latest wait
   pub record Holds (s : State) (f : ℕ → Bool) : Type 0 where
     pub in-order : InOrder u s
     pub placed : Placed u s
@@ -73,7 +73,7 @@ module _ (u : Setup) where
 
   module _ (a : Accepted u) (ranking : Ranking u) where
     event-holds : (s : State) (f : ℕ → Bool) → Holds s f → (o : Option Event)
-        → Holds (stepOf u s o) (λ x. struckWith u x s o (f x))
+        → Holds (stepOf u s o) (λ x. changed u (passedIn u (strikesInRoom u) x) s o (f x))
     unfolding step
     event-holds s f i none = i
     event-holds s f i (some e) =
@@ -88,14 +88,14 @@ module _ (u : Setup) where
         }))
         (λ q. rw q i)
 
-    pub reached : (h : List Record) → Holds (after u h) (λ x. struck u x h)
+    pub reached : (h : List Record) → Holds (after u h) (λ x. struckInRoom u x h)
     reached [] =
         record {
           in-order = fresh-in-order;
           placed = fresh-placed;
           kept = λ x r. begun u (outranks u fresh) fresh x false fresh-in-order refl;
         }
-    reached (r ∷ h) = event-holds (after u h) (λ x. struck u x h) (reached h) (eventOf r)
+    reached (r ∷ h) = event-holds (after u h) (λ x. struckInRoom u x h) (reached h) (eventOf r)
 
     pub reached-sound : Trimmed u → (h : List Record) → Sound u (after u h)
     reached-sound t h = let i = reached h in sound-is u (after u h) a t (i .in-order) (i .placed)

@@ -14,7 +14,7 @@ use Rattle.rules.specs.Sound.{Sound}
 use Rattle.rules.specs.Queues.{waits}
 use Rattle.rules.specs.Events.{Event, invoke, run, reply, abort, ran}
 use Rattle.rules.specs.Step.{answer, next, step}
-use Rattle.rules.specs.History.{begins, strikes}
+use Rattle.rules.specs.History.{begins, strikesInRoom}
 use Rattle.rules.proofs.Tests.{by-test}
 use Rattle.rules.proofs.Ranking.{Ranking}
 use Rattle.rules.proofs.Setups.{valid}
@@ -89,7 +89,7 @@ module _ (u : Setup) (ok : Valid u) (ranking : Ranking u) (s : State) (i : InOrd
 
   pub next-kept : (e : Event) → answer u s e ≡ accepted → (x : ℕ) → realTime u x ≡ true → (f : Bool)
       → Kept u (outranks u s) s x f
-      → Kept u (outranks u (next u s e)) (next u s e) x (cond (begins u x e) false (strikes u x s e || f))
+      → Kept u (outranks u (next u s e)) (next u s e) x (cond (begins u x e) false (strikesInRoom u x s e || f))
   unfolding next
   next-kept (invoke c) a x real f k =
       by-test (eqb c x)
@@ -105,7 +105,7 @@ module _ (u : Setup) (ok : Valid u) (ranking : Ranking u) (s : State) (i : InOrd
       over reply a x f f
       (replied-goes u ok (outranks u s) s i (ranking .order s) (reply-accepted u s a) x f .passes) k
   next-kept (abort c) a x real f k =
-      over (abort c) a x f (strikes u x s (abort c) || f)
+      over (abort c) a x f (strikesInRoom u x s (abort c) || f)
       (aborted-goes u (outranks u s) c s i (ranking .order s) (abort-accepted u s c a .waiting) x f _ refl .passes) k
 
 -- From any sound state an event leaves a sound state.

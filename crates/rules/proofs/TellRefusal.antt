@@ -38,6 +38,12 @@ refusalCases =
     -- 11 isn't given in the background queue
     caseOf (given (1 ∷ 2 ∷ []) (be 0 2 ∷ rt 1 3 ∷ []) 10) (invokes 1 ∷ invokes 0 ∷ invokes 0 ∷ [])
     (0 ∷ 0 ∷ 11 ∷ []) (some 1 ∷ some 1 ∷ some 1 ∷ []) (0 ∷ 0 ∷ []) ∷
+    -- 11 isn't given in the line
+    caseOf (given (2 ∷ []) (rt 0 1 ∷ rt 0 2 ∷ []) 10) (invokes 0 ∷ invokes 1 ∷ invokes 1 ∷ [])
+    (0 ∷ 0 ∷ 11 ∷ []) (some 0 ∷ some 0 ∷ some 0 ∷ []) (0 ∷ 0 ∷ []) ∷
+    -- 11 isn't given in the waiting room
+    caseOf (given (1 ∷ []) (rt 0 1 ∷ rt 0 2 ∷ []) 10) (invokes 0 ∷ invokes 1 ∷ invokes 1 ∷ [])
+    (0 ∷ 0 ∷ 11 ∷ []) (some 0 ∷ some 0 ∷ some 0 ∷ []) (0 ∷ 0 ∷ []) ∷
     -- 12 before 13
     caseOf (given (2 ∷ 2 ∷ []) (be 0 1 ∷ []) 10) (runs 0 ∷ []) (13 ∷ []) (none ∷ []) (0 ∷ []) ∷
     -- 14 before 12 and 13
@@ -57,6 +63,9 @@ refusalCases =
     -- units served become 0 when the request in service is aborted
     caseOf (given (2 ∷ []) (rt 0 1 ∷ []) 10) (invokes 0 ∷ runs 10 ∷ aborts 0 ∷ runs 1 ∷ [])
     (0 ∷ 0 ∷ 0 ∷ 14 ∷ []) (some 0 ∷ some 0 ∷ some 0 ∷ some 0 ∷ []) (10 ∷ []) ∷
+    -- an abort of a client that doesn't wait is accepted: before its first wait, and after one
+    caseOf (given (1 ∷ []) (rt 0 1 ∷ []) 10) (aborts 0 ∷ invokes 0 ∷ replies ∷ aborts 0 ∷ [])
+    (15 ∷ 0 ∷ 0 ∷ 15 ∷ []) (none ∷ some 0 ∷ none ∷ none ∷ []) (0 ∷ []) ∷
     -- 15 before 16
     caseOf (given (1 ∷ []) (be 0 3 ∷ []) 10) (aborts 0 ∷ []) (16 ∷ []) (none ∷ []) (0 ∷ []) ∷
     -- an abort of a best-effort client in its queue is accepted

@@ -1,29 +1,36 @@
 -- What is proved of the rules, for every accepted setup and every history of records, refused ones among them.
 -- Assumes nothing.
-use Prim.Native.Nat.{ℕ, _≤_}
+use Prim.Native.Nat.{ℕ, _+_, _≤_}
 use mathlib.Core.Path.{_≡_, refl}
 use mathlib.Core.List.{List, [], _∷_, reverseAux}
 use mathlib.Core.Option.{Option, some, none}
+use lib.IntN.{natAbs}
 use borrow.Author.Tests.{ne-eqb}
 use Rattle.rules.specs.Limits.{maxCharge}
 use Rattle.rules.specs.Refusals.{accepted, unsound}
 use Rattle.rules.specs.Setup.{Setup, Accepted, trimmed}
 use Rattle.rules.specs.State.{State}
-use Rattle.rules.specs.Rank.{outranks}
 use Rattle.rules.specs.Sound.{Sound}
+use Rattle.rules.specs.Queues.{waits}
 use Rattle.rules.specs.Events.{Event}
 use Rattle.rules.specs.Step.{answer, step}
 use Rattle.rules.specs.Records.{Record, eventOf, answerOf, stepOf}
 use Rattle.rules.specs.Replay.{replayFrom}
-use Rattle.rules.specs.History.{after, owed, struck}
-use Rattle.rules.specs.Demands.{Bounded, BoundedUnstruck}
-use Rattle.rules.proofs.Ranking.{Ranking, by-priority}
+use Rattle.rules.specs.History.{after, owed, waiting}
+use Rattle.rules.specs.Demands.{Bounded, BoundedUnstruckInRoom, BoundedUnstruck}
+use Rattle.rules.specs.Quote.{Order, budgetOf, acceptedQuote, quote, Fits}
+use Rattle.rules.specs.Budgets.{BoundedInAll, Use, Keeps, chargedFor}
+use Rattle.rules.proofs.Ranking.{by-priority}
 use Rattle.rules.proofs.Setups.{trimmed-is, trimmed-accepted}
-use Rattle.rules.proofs.Kept.{kept-unstruck, kept-worst}
 use Rattle.rules.proofs.Charge.{charge-is-owed}
 use Rattle.rules.proofs.Steps.{step-sound}
 use Rattle.rules.proofs.Reached.{reached, reached-sound}
 use Rattle.rules.proofs.Limit.{never-unsound}
+use Rattle.rules.proofs.Struck.{unstruck-in-room}
+use Rattle.rules.proofs.Bounded.{bounded-by, bounded-unstruck-by}
+use Rattle.rules.proofs.Waits.{waiting-waits}
+use Rattle.rules.proofs.Budgets.{covers}
+use Rattle.rules.proofs.Quotes.{accepted-fits, fits-quoted, budget-covers}
 
 -- A refused event leaves the state as it was.
 pub refused-same : (u : Setup) (s : State) (o : Option Event)
@@ -54,24 +61,39 @@ sound-stays u s (some e) h = step-sound u (by-priority u) s e h
 
 -- DEMAND 3
 
--- for any ranking: of rank nothing else is used
-pub bounded-by : (u : Setup) → Accepted u → Ranking u → Bounded u
-bounded-by u a ranking h c r =
-    rw (← charge-is-owed u c h)
-    (kept-worst u (outranks u (after u h)) (after u h) c (struck u c h) (reached u a ranking h .kept c r))
-
-pub bounded-unstruck-by : (u : Setup) → Accepted u → Ranking u → BoundedUnstruck u
-bounded-unstruck-by u a ranking h c r n =
-    rw (← charge-is-owed u c h)
-    (kept-unstruck u (outranks u (after u h)) (after u h) c (rw n at (reached u a ranking h .kept c r)))
-
 -- At most (2 + 2mK)L.
 pub bounded : (u : Setup) → Accepted u → Bounded u
 bounded u a = bounded-by u a (by-priority u)
 
--- Without an abort of its own cluster's request in service, at most (1 + 2mK)L.
+-- Without an abort of its own cluster's request in service while it is in the waiting room, at most (1 + 2mK)L ..
+pub bounded-unstruck-in-room : (u : Setup) → Accepted u → BoundedUnstruckInRoom u
+bounded-unstruck-in-room u a = bounded-unstruck-by u a (by-priority u)
+
+-- .. and so without one during its wait.
 pub bounded-unstruck : (u : Setup) → Accepted u → BoundedUnstruck u
-bounded-unstruck u a = bounded-unstruck-by u a (by-priority u)
+bounded-unstruck u a h c r n = bounded-unstruck-in-room u a h c r (unstruck-in-room u c h n)
+
+-- ALL WAITS OF A CLIENT, AND ITS BUDGET
+
+-- A wait by events, from an accepted invoke to the reply that ends it or the client's accepted abort, is a place in the
+-- client's line or waiting room.
+pub wait-is-place : (u : Setup) → Accepted u → (c : ℕ) (h : List Record) → waiting u c h ≡ waits u (after u h) c
+wait-is-place u a c h = waiting-waits u c a h
+
+-- Over all waits at most (2 + 2mK)L for each accepted invoke.
+pub bounded-in-all : (u : Setup) → Accepted u → BoundedInAll u
+bounded-in-all u a h c r = covers u a c r h
+
+-- An order is accepted exactly if it fits, and then its budget is the formula.
+pub accepted-exactly : (o : Order)
+    → (quote o .answer ≡ accepted → Fits o) × (Fits o → quote o ≡ acceptedQuote (budgetOf o))
+accepted-exactly o = (accepted-fits o, fits-quoted o)
+
+-- Where an accepted order's N are not passed, e and all that was charged are within its budget, and that is within the
+-- period.
+pub within-budget : (o : Order) (xs : List Use) → quote o .answer ≡ accepted → Keeps o xs
+    → (natAbs (o .work) + chargedFor xs ≤ quote o .budget) × (quote o .budget ≤ natAbs (o .period))
+within-budget = budget-covers
 
 -- THE CHARGE LIMIT
 

@@ -6,7 +6,7 @@ use mathlib.Core.Bool.{true, false}
 use mathlib.Core.List.{List}
 use Rattle.rules.specs.Setup.{Setup, realTime, service}
 use Rattle.rules.specs.Records.{Record}
-use Rattle.rules.specs.History.{owed, struck}
+use Rattle.rules.specs.History.{owed, struck, struckInRoom}
 
 -- (2 + 2mK)L
 abbrev pub worst : ℕ → ℕ → ℕ → ℕ
@@ -22,7 +22,13 @@ abbrev pub Bounded : Setup → Type 0
 Bounded u = (h : List Record) (c : ℕ) → realTime u c ≡ true
     → owed u c h ≤ worst (u .size (u .cluster c)) (u .clusters) (service u)
 
--- Without an accepted abort of its own cluster's request in service during that wait, at most (1 + 2mK)L.
+-- Without an accepted abort of its own cluster's request in service while it was in the waiting room, at most
+-- (1 + 2mK)L ..
+abbrev pub BoundedUnstruckInRoom : Setup → Type 0
+BoundedUnstruckInRoom u = (h : List Record) (c : ℕ) → realTime u c ≡ true → struckInRoom u c h ≡ false
+    → owed u c h ≤ worstUnstruck (u .size (u .cluster c)) (u .clusters) (service u)
+
+-- .. and so without one during that wait at all.
 abbrev pub BoundedUnstruck : Setup → Type 0
 BoundedUnstruck u = (h : List Record) (c : ℕ) → realTime u c ≡ true → struck u c h ≡ false
     → owed u c h ≤ worstUnstruck (u .size (u .cluster c)) (u .clusters) (service u)

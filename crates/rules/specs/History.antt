@@ -1,13 +1,14 @@
--- A history of records, refused ones among them, and what a client is charged in it. The latest record stands first.
+-- A history of records, refused ones among them: what a client is charged in it, when it waits, and what hits it
+-- meanwhile. The latest record stands first.
 -- Assumes nothing.
-use Prim.Native.Nat.{ℕ, _+_}
-use mathlib.Core.Bool.{Bool, false, not, _&&_, _||_, cond}
+use Prim.Native.Nat.{ℕ, suc, _+_}
+use mathlib.Core.Bool.{Bool, true, false, not, _&&_, _||_, cond}
 use mathlib.Core.List.{List, [], _∷_}
 use mathlib.Core.Option.{Option, some, none}
 use lib.Dec.{eqb}
 use Rattle.rules.specs.Refusals.{accepted}
 use Rattle.rules.specs.Setup.{Setup, realTime}
-use Rattle.rules.specs.State.{State, fresh, isFront}
+use Rattle.rules.specs.State.{State, fresh, isFront, serves}
 use Rattle.rules.specs.Rank.{outranks}
 use Rattle.rules.specs.Queues.{waits}
 use Rattle.rules.specs.Events.{Event, invoke, run, reply, abort, charged}
@@ -19,6 +20,18 @@ module _ (u : Setup) where
   abbrev pub after : List Record → State
   after [] = fresh
   after (r ∷ h) = stepOf u (after h) (eventOf r)
+
+  -- WHAT IS KEPT ALONG A HISTORY
+
+  -- `change s e x`: what becomes of x with an accepted event e that found the state s. A refused record changes nothing.
+  abbrev pub changed : {A : Type 0} → (State → Event → A → A) → State → Option Event → A → A
+  changed change s none x = x
+  changed change s (some e) x = cond (eqb (answer u s e) accepted) (change s e x) x
+
+  -- x stands before the first record
+  abbrev pub along : {A : Type 0} → (State → Event → A → A) → A → List Record → A
+  along change x [] = x
+  along change x (r ∷ h) = changed change (after h) (eventOf r) (along change x h)
 
   -- THE CHARGE OF A CLIENT'S LATEST WAIT
 
@@ -36,32 +49,69 @@ module _ (u : Setup) where
   adds c s reply = 0
   adds c s (abort d) = 0
 
-  -- the sum with a record that finds the state s; a refused one adds nothing
-  abbrev pub owedWith : ℕ → State → Option Event → ℕ → ℕ
-  owedWith c s none n = n
-  owedWith c s (some e) n = cond (eqb (answer u s e) accepted) (cond (begins c e) 0 (n + adds c s e)) n
+  abbrev pub owes : ℕ → State → Event → ℕ → ℕ
+  owes c s e n = cond (begins c e) 0 (n + adds c s e)
 
   -- the units of all accepted runs that charged c, from its latest accepted invoke on
   abbrev pub owed : ℕ → List Record → ℕ
-  owed c [] = 0
-  owed c (r ∷ h) = owedWith c (after h) (eventOf r) (owed c h)
+  owed c = along (owes c) 0
+
+  -- ALL OF ITS WAITS
+
+  abbrev pub owesInAll : ℕ → State → Event → ℕ → ℕ
+  owesInAll c s e n = n + adds c s e
+
+  -- the units of all accepted runs that charged c
+  abbrev pub owedInAll : ℕ → List Record → ℕ
+  owedInAll c = along (owesInAll c) 0
+
+  abbrev pub callsAgain : ℕ → State → Event → ℕ → ℕ
+  callsAgain c s e n = cond (begins c e) (suc n) n
+
+  -- how often it was accepted with an invoke
+  abbrev pub calls : ℕ → List Record → ℕ
+  calls c = along (callsAgain c) 0
+
+  -- WHEN IT WAITS
+
+  -- .. to the reply that ends it or the client's accepted abort. A reply ends the request in service.
+  abbrev pub ends : ℕ → State → Event → Bool
+  ends c s (invoke d) = false
+  ends c s (run n) = false
+  ends c s reply = serves (s .server) c
+  ends c s (abort d) = eqb d c
+
+  abbrev pub waitsOn : ℕ → State → Event → Bool → Bool
+  waitsOn c s e b = cond (begins c e) true (not (ends c s e) && b)
+
+  -- a wait of c has begun and has not ended
+  abbrev pub waiting : ℕ → List Record → Bool
+  waiting c = along (waitsOn c) false
 
   -- WHETHER ITS CLUSTER'S REQUEST IN SERVICE WAS ABORTED MEANWHILE
 
-  -- the event is an abort, other than c's own, of the request of c's cluster in service, while c waits
+  -- the event is an abort of the request of c's cluster in service, other than c's own
+  abbrev pub hits : ℕ → State → Event → Bool
+  hits c s (invoke d) = false
+  hits c s (run n) = false
+  hits c s reply = false
+  hits c s (abort d) = (isFront (s .server) d && eqb (u .cluster d) (u .cluster c)) && not (eqb d c)
+
+  -- while c waits
   abbrev pub strikes : ℕ → State → Event → Bool
-  strikes c s (invoke d) = false
-  strikes c s (run n) = false
-  strikes c s reply = false
-  strikes c s (abort d) =
-      ((waits u s c && not (eqb d c)) && isFront (s .server) d) && eqb (u .cluster d) (u .cluster c)
+  strikes c s e = hits c s e && waits u s c
 
-  abbrev pub struckWith : ℕ → State → Option Event → Bool → Bool
-  struckWith c s none b = b
-  struckWith c s (some e) b =
-      cond (eqb (answer u s e) accepted) (cond (begins c e) false (strikes c s e || b)) b
+  -- while c is in the waiting room
+  abbrev pub strikesInRoom : ℕ → State → Event → Bool
+  strikesInRoom c s e = hits c s e && s .room c
 
-  -- an accepted abort hit its own cluster's request in service during c's latest wait
+  abbrev pub passedIn : (ℕ → State → Event → Bool) → ℕ → State → Event → Bool → Bool
+  passedIn p c s e b = cond (begins c e) false (p c s e || b)
+
+  -- an accepted abort hit its own cluster's request in service during c's latest wait ..
   abbrev pub struck : ℕ → List Record → Bool
-  struck c [] = false
-  struck c (r ∷ h) = struckWith c (after h) (eventOf r) (struck c h)
+  struck c = along (passedIn strikes c) false
+
+  -- .. and did so while c was in the waiting room
+  abbrev pub struckInRoom : ℕ → List Record → Bool
+  struckInRoom c = along (passedIn strikesInRoom c) false

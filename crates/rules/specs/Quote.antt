@@ -1,7 +1,8 @@
 -- The quote: a budget, or a refusal of the order.
 -- Assumes nothing.
-use Prim.Native.Nat.{ℕ, suc, _+_, _*_}
-use mathlib.Core.Bool.{Bool, false, not, _&&_, _||_, cond}
+use Prim.Native.Nat.{ℕ, suc, _+_, _*_, _≤_}
+use mathlib.Core.Path.{_≡_}
+use mathlib.Core.Bool.{Bool, true, false, not, _&&_, _||_, cond}
 use mathlib.Core.List.{List, [], _∷_}
 use lib.Dec.{eqb, ltb, leb}
 use lib.IntN.{ℤ, pos, negsuc, natAbs}
@@ -65,17 +66,43 @@ budgetOf o = natAbs (o .work) + burnt (natAbs (o .size)) (natAbs (o .clusters)) 
 
 -- ANSWER
 
+-- 32: over 16 server lines, or the two columns differ in length
+abbrev pub linesWrong : Order → Bool
+linesWrong o = ltb maxLines (length (o .calls)) || not (eqb (length (o .calls)) (length (o .caps)))
+
+-- 30: a form field out of range
+abbrev pub fieldWrong : Order → Bool
+fieldWrong o = ltb (firstFalse (fieldsFit o)) (length (fieldsFit o))
+
+-- 31: quoted budget over the period
+abbrev pub budgetOver : Order → Bool
+budgetOver o = ltb (natAbs (o .period)) (budgetOf o)
+
 -- Refused: budget 0. The place is 0 in every answer but 30.
 abbrev pub refusedQuote : ℕ → ℕ → Quote
 refusedQuote n at = record { budget = 0; answer = n; place = at }
 
+abbrev pub acceptedQuote : ℕ → Quote
+acceptedQuote b = record { budget = b; answer = accepted; place = 0 }
+
 -- Check 32, then the fields; 30 also gives the field's place. Then 31. A budget equal to p is accepted.
 unfoldable pub quote : Order → Quote
 quote o =
-    cond (ltb maxLines (length (o .calls)) || not (eqb (length (o .calls)) (length (o .caps))))
-    (refusedQuote badLines 0)
-    (cond (ltb (firstFalse (fieldsFit o)) (length (fieldsFit o)))
-    (refusedQuote fieldOut (firstFalse (fieldsFit o)))
-    (cond (ltb (natAbs (o .period)) (budgetOf o))
-    (refusedQuote overPeriod 0)
-    (record { budget = budgetOf o; answer = accepted; place = 0 })))
+    cond (linesWrong o) (refusedQuote badLines 0)
+    (cond (fieldWrong o) (refusedQuote fieldOut (firstFalse (fieldsFit o)))
+    (cond (budgetOver o) (refusedQuote overPeriod 0)
+    (acceptedQuote (budgetOf o))))
+
+-- WHICH ORDERS ARE ACCEPTED
+
+abbrev pub AllTrue : List Bool → Type 0
+AllTrue [] = Unit {0}
+AllTrue (b ∷ bs) = (b ≡ true) × AllTrue bs
+
+-- None of 32, 30 and 31 applies: at most 16 lines, in columns of one length; every field in its range; a budget within
+-- the period.
+pub record Fits (o : Order) : Type 0 where
+  pub lines : length (o .calls) ≤ maxLines
+  pub columns : length (o .calls) ≡ length (o .caps)
+  pub fields : AllTrue (fieldsFit o)
+  pub period : budgetOf o ≤ natAbs (o .period)
