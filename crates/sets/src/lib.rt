@@ -33,7 +33,7 @@ pub fn without(s: u64, c: usize) -> u64
     }
 }
 
-// The members of both.
+// The members of the one or the other.
 pub fn union(s: u64, t: u64) -> u64
     ensures { λ r. ⌜ r ≡ unionOf s t ⌝ }
 {
