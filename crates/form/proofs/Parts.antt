@@ -96,7 +96,9 @@ module _ (room out : List ℕ) (n at : ℕ) (all : length room ≡ roomBytes) (f
   answered-lf b e out′ used w =
       let y = eq-eqb b lf e in
       record {
-        text = rw y (subst (λ (x : List ℕ). WroteAt at x out out′ used) (sym (append-nil (line (asked (withoutCr (take n room)))))) w);
+        text =
+            let one = sym (append-nil (line (asked (withoutCr (take n room))))) in
+            rw y (subst (λ (x : List ℕ). WroteAt at x out out′ used) one w);
         count = rw y;
         held = rw y;
         bytes = rw y;
@@ -107,7 +109,8 @@ module _ (room out : List ℕ) (n at : ℕ) (all : length room ≡ roomBytes) (f
       by-test (ltb n roomBytes)
       (λ y. let h = ltb-true n roomBytes y in
       let m : min (n + 1) roomBytes ≡ suc n = omega arith in
-      let k : length (take n room ++ (b ∷ [])) ≤ roomBytes = omega (arith, length-append (take n room) (b ∷ []), long) in
+      let k : length (take n room ++ (b ∷ [])) ≤ roomBytes
+      = omega (arith, length-append (take n room) (b ∷ []), long) in
       rw m (take-suc-set room n b (omega arith) ∙ sym (take-all roomBytes (take n room ++ (b ∷ [])) k)))
       (λ f. let h = ltb-false n roomBytes f in
       let m : min (n + 1) roomBytes ≡ roomBytes = omega arith in
@@ -124,7 +127,8 @@ module _ (room out : List ℕ) (n at : ℕ) (all : length room ≡ roomBytes) (f
       record {
         text = rw f (wrote-none at out);
         count =
-            rw f (omega (arith, length-take roomBytes (take n room ++ (b ∷ [])), length-append (take n room) (b ∷ []), long));
+            let more = take n room ++ (b ∷ []) in
+            rw f (omega (arith, length-take roomBytes more, length-append (take n room) (b ∷ []), long));
         held = rw f (held-one b);
         bytes = rw f (ap (λ (k : ℕ). set room k b) (sym start));
       }

@@ -1,5 +1,5 @@
--- Nothing is lost or joined where a part of the input ends: what is held of an order is enough to answer it, and however
--- the input is cut, the orders of its parts are those of the whole.
+-- Nothing is lost or joined where a part of the input ends: what is held of an order is enough to answer it, and
+-- however the input is cut, what is written for its parts is what answers the whole.
 -- Assumes nothing.
 use Prim.Native.Nat.{ℕ, _+_, _-_, _≤_}
 use native.Mathlib.Omega.{arith}
@@ -121,9 +121,11 @@ rest begun s = map asked (ended begun s) ++ map asked (last (behind begun s))
 
 rest-on : (begun s t : List ℕ) → rest begun (s ++ t) ≡ map asked (ended begun s) ++ rest (behind begun s) t
 rest-on begun s t =
-    rw (ended-on begun s t, behind-on begun s t, map-append asked (ended begun s) (ended (behind begun s) t), append-assoc)
+    rw (ended-on begun s t, behind-on begun s t)
+    (rw (map-append asked (ended begun s) (ended (behind begun s) t), append-assoc))
 
-output-rest : (begun : List ℕ) (parts : List (List ℕ)) → output (take roomBytes begun) parts ≡ lines (rest begun (flatten parts))
+output-rest : (begun : List ℕ) (parts : List (List ℕ))
+    → output (take roomBytes begun) parts ≡ lines (rest begun (flatten parts))
 unfolding flatten
 output-rest begun [] = ap lines (last-held begun)
 output-rest begun (part ∷ parts) =

@@ -27,11 +27,12 @@ roomAfter room n (b ∷ part) =
     cond (eqb b lf) (roomAfter room 0 part) (roomAfter (set room n b) (min (n + 1) roomBytes) part)
 
 -- A part is answered: a line for each order that ends in it, from a place on. The first n bytes of the room were held.
-pub record Answered (part room : List ℕ) (n : ℕ) (room′ out : List ℕ) (at : ℕ) (out′ : List ℕ) (r : Standing) : Type 0 where
-  pub text : WroteAt at (lines (map asked (ended (take n room) part))) out out′ (r .used)
-  pub count : r .n ≡ length (heldAfter (take n room) part)
-  pub held : take (r .n) room′ ≡ heldAfter (take n room) part
-  pub bytes : room′ ≡ roomAfter room (min n roomBytes) part
+pub record Answered (part room : List ℕ) (n : ℕ) (room′ out : List ℕ) (at : ℕ) (out′ : List ℕ) (r : Standing) : Type 0
+  where
+    pub text : WroteAt at (lines (map asked (ended (take n room) part))) out out′ (r .used)
+    pub count : r .n ≡ length (heldAfter (take n room) part)
+    pub held : take (r .n) room′ ≡ heldAfter (take n room) part
+    pub bytes : room′ ≡ roomAfter room (min n roomBytes) part
 
 -- The end of the input is answered: a line for the order that it ends, if there is one.
 abbrev pub EndAnswered : List ℕ → List ℕ → List ℕ → ℕ → Type 0

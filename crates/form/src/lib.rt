@@ -11,7 +11,7 @@ ghost use Rattle.io.specs.Counts.{Counts};
 ghost use Rattle.text.specs.Text.{WroteAt};
 ghost use Rattle.order.specs.Orders.{asked};
 ghost use Rattle.form.specs.Input.{withoutCr};
-ghost use Rattle.form.specs.Output.{line};
+ghost use Rattle.form.specs.Output.{line, lineBytes};
 ghost use Rattle.form.specs.Parts.{roomBytes, Answered, EndAnswered};
 
 const CR: u8 = 13;
@@ -32,9 +32,16 @@ pub struct Standing {
 }
 
 // Answers the orders that end in the first k bytes of a part. The first n bytes of the room are held of the first one.
-pub fn answer_part(part: &[u8; PART], k: usize, room: &mut [u8; ROOM], n: usize, out: &mut [u8; OUT]) -> Standing
+pub fn answer_part(
+    part: &[u8; PART],
+    k: usize,
+    room: &mut [u8; ROOM],
+    n: usize,
+    out: &mut [u8; OUT],
+) -> Standing
     ensures { λ r. ⌜ Counts (r .used) (now (out .exit)) ⌝ }
-    ensures { λ r. ⌜ Answered (take k (now (part .entry))) (now (room .entry)) n (now (room .exit)) (now (out .entry)) 0 (now (out .exit)) r ⌝ }
+    ensures { λ r. ⌜ Answered (take k (now (part .entry))) (now (room .entry)) n (now (room .exit))
+        (now (out .entry)) 0 (now (out .exit)) r ⌝ }
 {
     let bytes: &[u8] = part;
     let end = least(k, PART);
@@ -46,18 +53,19 @@ pub fn answer_end(room: &[u8; ROOM], n: usize, out: &mut [u8; OUT]) -> usize
     ensures { λ r. ⌜ Counts r (now (out .exit)) ⌝ }
     ensures { λ r. ⌜ EndAnswered (take n (now (room .entry))) (now (out .entry)) (now (out .exit)) r ⌝ }
 {
-    let k = least(n, ROOM);
-    if k == 0 {
+    let held = least(n, ROOM);
+    if held == 0 {
         return 0;
     }
-    answer(room, k, out, 0)
+    answer(room, held, out, 0)
 }
 
 // The same for a part of any length, with room for what is held and for the answers.
 fn answer_bytes(part: &[u8], room: &mut [u8], n: usize, out: &mut [u8]) -> Standing
     requires { ⌜ (length (now room) ≡ roomBytes) × (n ≤ roomBytes) ⌝ }
-    requires { ⌜ length (now part) * 63 ≤ length (now out) ⌝ }
-    ensures { λ r. ⌜ Answered (now (part .entry)) (now (room .entry)) n (now (room .exit)) (now (out .entry)) 0 (now (out .exit)) r ⌝ }
+    requires { ⌜ length (now part) * lineBytes ≤ length (now out) ⌝ }
+    ensures { λ r. ⌜ Answered (now (part .entry)) (now (room .entry)) n (now (room .exit))
+        (now (out .entry)) 0 (now (out .exit)) r ⌝ }
     ensures { λ r. ⌜ r .used ≤ length (now (out .entry)) ⌝ }
 {
     let mut held = n;
@@ -75,9 +83,10 @@ fn answer_bytes(part: &[u8], room: &mut [u8], n: usize, out: &mut [u8]) -> Stand
 // One byte: an LF ends the order, and its answer is written from a place on; another byte is held.
 fn take_byte(b: u8, room: &mut [u8], n: usize, out: &mut [u8], at: usize) -> Standing
     requires { ⌜ (length (now room) ≡ roomBytes) × (n ≤ roomBytes) ⌝ }
-    requires { ⌜ at + 63 ≤ length (now out) ⌝ }
-    ensures { λ r. ⌜ Answered (b ∷ []) (now (room .entry)) n (now (room .exit)) (now (out .entry)) at (now (out .exit)) r ⌝ }
-    ensures { λ r. ⌜ r .used ≤ at + 63 ⌝ }
+    requires { ⌜ at + lineBytes ≤ length (now out) ⌝ }
+    ensures { λ r. ⌜ Answered (b ∷ []) (now (room .entry)) n (now (room .exit))
+        (now (out .entry)) at (now (out .exit)) r ⌝ }
+    ensures { λ r. ⌜ r .used ≤ at + lineBytes ⌝ }
 {
     if b == LF {
         let k = without_cr(room, n);
@@ -95,9 +104,9 @@ fn take_byte(b: u8, room: &mut [u8], n: usize, out: &mut [u8], at: usize) -> Sta
 // The answer to the order of the first n bytes, from a place on.
 fn answer(room: &[u8], n: usize, out: &mut [u8], at: usize) -> usize
     requires { ⌜ n ≤ length (now room) ⌝ }
-    requires { ⌜ at + 63 ≤ length (now out) ⌝ }
+    requires { ⌜ at + lineBytes ≤ length (now out) ⌝ }
     ensures { λ r. ⌜ WroteAt at (line (asked (take n (now (room .entry))))) (now (out .entry)) (now (out .exit)) r ⌝ }
-    ensures { λ r. ⌜ r ≤ at + 63 ⌝ }
+    ensures { λ r. ⌜ r ≤ at + lineBytes ⌝ }
 {
     put_answer(out, at, order::ask(&room[..n]))
 }

@@ -13,6 +13,7 @@ use Rattle.quote.specs.Told.{orderOf}
 use Rattle.quote.proofs.Answers.{many-lines}
 use Rattle.order.specs.Numbers.{outOfRange}
 use Rattle.order.specs.Orders.{fields, values, everyOther, orderFrom, maxBytes, asked}
+use Rattle.order.specs.Steps.{maxFields}
 use Rattle.order.proofs.Fields.{length-values}
 use Rattle.order.proofs.Columns.{length-column}
 
@@ -26,7 +27,7 @@ module _ (s : List ℕ) where
     unfolding asked
     not-long = rw (le-ltb maxBytes (length s) short)
 
-    pub many-fields : 36 < length (fields s) → asked s ≡ refusedQuote badLines 0
+    pub many-fields : maxFields < length (fields s) → asked s ≡ refusedQuote badLines 0
     many-fields h =
         not-long ∙ many-lines (orderFrom (values s)) (omega (arith, length-column (values s) 4, length-values s))
 

@@ -116,5 +116,6 @@ module _ (s : List ℕ) (k a : ℕ) (here : At s k a) where
   -- there is one
   pub field-here : k < length (fields s)
   field-here =
-      let some : 0 < length (drop k (fields s)) = subst (λ (fs : List (List ℕ)). 0 < length fs) (here .left) (some-field rest) in
+      let some : 0 < length (drop k (fields s))
+      = subst (λ (fs : List (List ℕ)). 0 < length fs) (here .left) (some-field rest) in
       omega (arith, length-drop k (fields s))

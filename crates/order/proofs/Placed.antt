@@ -7,7 +7,8 @@ use mathlib.Core.Path.{_≡_, refl, sym, ap, _∙_, subst}
 use mathlib.Core.List.{List, [], _∷_}
 use lib.IntN.{ℤ, pos}
 use lib.Dec.{eqb, ltb}
-use lib.ListN.{length, getD, take, drop, set, replicate, length-take, length-set, length-replicate, getD-replicate, List·getD-eq-default}
+use lib.ListN.{length, getD, take, drop, set, replicate, length-take, length-set, length-replicate}
+use lib.ListN.{getD-replicate, List·getD-eq-default}
 use lib.Seq.{take-all, getD-take, getD-set-same, getD-set-other}
 use borrow.Author.Tests.{eqb-true, eqb-false, ltb-true, ltb-false}
 use Rattle.rules.proofs.Tests.{by-test}
@@ -82,7 +83,8 @@ module _ (s : List ℕ) (before v : List ℤ) (n a : ℕ) (reading : Reading s b
         few = omega (arith, reading .few);
         next = λ h. at-next s n a here (omega arith);
         done = λ h. last-here s n a here (omega arith);
-        placed = one-more (values s) before v n x (reading .long) some (is ∙ sym (value-here s n a here)) (reading .placed);
+        placed =
+            one-more (values s) before v n x (reading .long) some (is ∙ sym (value-here s n a here)) (reading .placed);
       }
 
 -- no field more

@@ -3,19 +3,22 @@ mod number;
 
 use number::field_value;
 use quote::Answer;
+use quote::MAX_LINES;
 ghost use mathlib.Core.Path.{_≡_};
 ghost use Prim.Native.Nat.{_+_, _≤_};
 ghost use lib.ListN.{length, drop, set};
+ghost use Rattle.rules.specs.Limits.{maxLines};
 ghost use Rattle.quote.specs.Told.{told};
 ghost use Rattle.order.specs.Orders.{maxBytes, asked, fields, values};
-ghost use Rattle.order.specs.Steps.{fieldLength, Placed, inColumn, Column};
+ghost use Rattle.order.specs.Steps.{fieldLength, maxFields, Placed, inColumn, Column};
 
 const COMMA: u8 = 44;
 
+// The most bytes of an order.
 pub const MAX_BYTES: usize = 1023;
 
-// The first four, and N and L of sixteen lines.
-const MAX_FIELDS: usize = 36;
+// The first four, and N and L of each line.
+const MAX_FIELDS: usize = 4 + 2 * MAX_LINES;
 
 // The quote that a line of text asks for: `e,p,m,K,N1,L1,N2,L2,..`, without its line end.
 pub fn ask(s: &[u8]) -> Answer
@@ -62,20 +65,20 @@ fn place(v: &mut [i64], n: usize, x: i64)
 }
 
 fn in_column(n: usize, from: usize) -> usize
-    requires { ⌜ n ≤ 36 ⌝ }
+    requires { ⌜ n ≤ maxFields ⌝ }
     ensures { λ r. ⌜ r ≡ inColumn n from ⌝ }
 {
     if n < from { 0 } else { (n - from + 1) / 2 }
 }
 
-// Sixteen fields from one on, every other.
-fn column(v: &[i64; MAX_FIELDS], from: usize) -> [i64; 16]
+// The fields of a column: every other place from one on.
+fn column(v: &[i64; MAX_FIELDS], from: usize) -> [i64; MAX_LINES]
     requires { ⌜ from ≤ 5 ⌝ }
-    ensures { λ r. ⌜ (length r ≡ 16) × Column (now (v .entry)) from r ⌝ }
+    ensures { λ r. ⌜ (length r ≡ maxLines) × Column (now (v .entry)) from r ⌝ }
 {
-    let mut out = [0i64; 16];
+    let mut out = [0i64; MAX_LINES];
     let mut i = 0;
-    while i < 16 {
+    while i < MAX_LINES {
         let x = v[from + 2 * i];
         out[i] = x;
         i += 1;

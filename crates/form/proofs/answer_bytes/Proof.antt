@@ -1,4 +1,4 @@
--- `form::answer_bytes` meets its contract. The loop's invariant: the first i bytes are answered, as a part of their own.
+-- `form::answer_bytes` meets its contract. The loop's invariant: the first i bytes are answered, as a part is.
 -- Assumes nothing.
 use Prim.Native.Nat.{ℕ, _+_, _-_, _*_, _≤_, _<_}
 use native.Mathlib.Numerals.{add-one}
@@ -8,6 +8,7 @@ use mathlib.Core.List.{List}
 use lib.ListN.{length, take}
 use lib.Seq.{take-suc, take-all}
 use Rattle.form.specs.declared.Standing.{Standing}
+use Rattle.form.specs.Output.{lineBytes}
 use Rattle.form.specs.Parts.{roomBytes, Answered}
 use Rattle.form.proofs.Parts.{answered-few, answered-none, answered-on}
 use Rattle.form.proofs.answer_bytes.Statement.{statement}
@@ -18,7 +19,7 @@ Inv-loop part room₀ n out₀ held₀ used₀ i₀ room out held used i =
     (i ≤ length part)
     × (length room ≡ roomBytes)
     × (length out ≡ length out₀)
-    × (used ≤ i * 63)
+    × (used ≤ i * lineBytes)
     × Answered (take i part) room₀ n room out₀ 0 out (record { n = held; used = used })
 
 abbrev μ-loop : tie.MeasureT-loop
@@ -26,9 +27,13 @@ abbrev μ-loop : tie.MeasureT-loop
 
 loop-holds : tie.Need-loop-holds Inv-loop μ-loop
 loop-holds c = let s = c .before .before .before in
-    let a = s .args in
-    (omega arith, s .pre .0 .0, refl, omega arith,
-      answered-none (a .room .now) (a .out .now) (a .n) 0 (s .pre .0 .0) (s .pre .0 .1))
+    let a = s .args in (
+      omega arith,
+      s .pre .0 .0,
+      refl,
+      omega arith,
+      answered-none (a .room .now) (a .out .now) (a .n) 0 (s .pre .0 .0) (s .pre .0 .1),
+    )
 
 shared-slice-read-take-byte : tie.Need-shared-slice-read-take-byte Inv-loop μ-loop
 shared-slice-read-take-byte c = omega arith

@@ -33,9 +33,14 @@ returns-2 c = let w = c .answer in
     let room = a .room .now in
     let all : length room ≡ roomBytes = omega (arith, c .before .before .answer-arg .given) in
     let held : take (l .least .result) room ≡ take (a .n) room
-    = ap (λ (k : ℕ). take k room) (l .least .ensures ∙ ap (λ (k : ℕ). min (a .n) k) (sym all)) ∙ take-least (a .n) room in
+    = ap (λ (k : ℕ). take k room) (l .least .ensures ∙ ap (λ (k : ℕ). min (a .n) k) (sym all))
+    ∙ take-least (a .n) room in
     let some : 0 < length (take (l .least .result) room)
-    = omega (arith, length-take-le (l .least .result) room (omega (arith, l .least .ensures)), c .before .before .before .if1 .left) in
+    = omega (
+      arith,
+      length-take-le (l .least .result) room (omega (arith, l .least .ensures)),
+      c .before .before .before .if1 .left,
+    ) in
     let fits : w .result ≤ length (w .last .1 .1 .0) = omega (arith, w .ensures .1, w .kept) in (
       (fits, sym (length-take-le (w .result) (w .last .1 .1 .0) fits)),
       subst (λ (h : List ℕ). EndAnswered h (a .out .now) (w .last .1 .1 .0) (w .result)) held

@@ -1,4 +1,4 @@
--- `form::answer_part` meets its contract: no more than the part and the room hold is answered, and there is room for it.
+-- `form::answer_part` meets its contract: no more is answered than part and room hold, and there is room for it.
 -- Assumes nothing.
 use borrow.Author.Needs.{needs}
 use Prim.Native.Nat.{ℕ, _≤_, min}
@@ -31,7 +31,12 @@ answer-bytes-requires c κs = let l = c .before .before .before .before in
     let part = l .before .before .args .part .now in
     let few : c .before .least2 .result ≤ roomBytes = omega (arith, c .before .least2 .ensures) in (
       (c .before .before .answer-bytes-arg2 .given .0 .1, few),
-      omega (arith, length-take-le (l .least .result) part (there l), l .least .ensures, c .answer-bytes-arg3 .given .0 .1),
+      omega (
+        arith,
+        length-take-le (l .least .result) part (there l),
+        l .least .ensures,
+        c .answer-bytes-arg3 .given .0 .1,
+      ),
     )
 
 returns : tie.Need-returns
@@ -43,8 +48,8 @@ returns c = let r = c .answer-bytes in
     let bytes : take (l .least .result) part ≡ take (a .k) part
     = ap (λ (n : ℕ). take n part) (l .least .ensures ∙ ap (λ (n : ℕ). min (a .k) n) (sym (l .before .bytes .given .0)))
     ∙ take-least (a .k) part in
-    let held : Answered (take (l .least .result) part) (a .room .now) (min (a .n) roomBytes) (r .last .1 .0) (a .out .now) 0
-    (r .last .1 .1 .1 .0) (r .result)
+    let held : Answered (take (l .least .result) part) (a .room .now) (min (a .n) roomBytes) (r .last .1 .0)
+    (a .out .now) 0 (r .last .1 .1 .1 .0) (r .result)
     = subst (λ (n : ℕ). Answered (take (l .least .result) part) (a .room .now) n (r .last .1 .0) (a .out .now) 0
     (r .last .1 .1 .1 .0) (r .result)) (c .before .before .least2 .ensures) (r .ensures .0) in
     let fits : r .result .used ≤ length (r .last .1 .1 .1 .0) = omega (arith, r .ensures .1, r .kept .1 .1 .1 .0) in (

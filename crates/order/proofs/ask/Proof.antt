@@ -8,10 +8,11 @@ use mathlib.Core.List.{List}
 use lib.IntN.{ℤ, pos}
 use lib.ListN.{length, getD, take, drop}
 use lib.Seq.{length-take-le}
+use Rattle.rules.specs.Limits.{maxLines}
 use Rattle.quote.proofs.Ranges.{read-back}
 use Rattle.order.specs.Numbers.{outOfRange}
 use Rattle.order.specs.Orders.{values, everyOther}
-use Rattle.order.specs.Steps.{inColumn, Column}
+use Rattle.order.specs.Steps.{maxFields, inColumn, Column}
 use Rattle.order.proofs.Fields.{length-values}
 use Rattle.order.proofs.Placed.{placed-at}
 use Rattle.order.proofs.Columns.{column-is}
@@ -55,16 +56,17 @@ fs f = values (text f)
 counted : (f : tie.After-read-fields) → f .read-fields .result ≡ length (fs f)
 counted f = f .read-fields .ensures .0 ∙ sym (length-values (text f))
 
-at : (f : tie.After-read-fields) (j : ℕ) → j < 36 → getD (f .read-fields .last .1 .0) j (pos 0) ≡ getD (fs f) j outOfRange
-at f j h = placed-at (fs f) (f .read-fields .last .1 .0) 36 (f .read-fields .ensures .1) j h
+at : (f : tie.After-read-fields) (j : ℕ) → j < maxFields
+    → getD (f .read-fields .last .1 .0) j (pos 0) ≡ getD (fs f) j outOfRange
+at f j h = placed-at (fs f) (f .read-fields .last .1 .0) maxFields (f .read-fields .ensures .1) j h
 
 -- the first places of a column are there, and they are the column of the order
 abbrev Read : ℕ → ℕ → List ℤ → List ℤ → Type 0
 Read from k column vs = (k ≤ length column) × (take k column ≡ everyOther (drop from vs))
 
-column-read : (f : tie.After-read-fields) → f .read-fields .result ≤ 36 → (from : ℕ) → (4 ≤ from) × (from ≤ 5)
+column-read : (f : tie.After-read-fields) → f .read-fields .result ≤ maxFields → (from : ℕ) → (4 ≤ from) × (from ≤ 5)
     → (k : ℕ) → k ≡ inColumn (f .read-fields .result) from → (out : List ℤ)
-    → (length out ≡ 16) × Column (f .read-fields .last .1 .0) from out → Read from k out (fs f)
+    → (length out ≡ maxLines) × Column (f .read-fields .last .1 .0) from out → Read from k out (fs f)
 column-read f few from low k count out column =
     let n = count ∙ ap (λ (n : ℕ). inColumn n from) (counted f) in
     let there : k ≤ length out = omega (arith, counted f) in (
@@ -74,17 +76,23 @@ column-read f few from low k count out column =
           (λ i h. column .1 i (omega arith) ∙ at f (from + 2 * i) (omega arith)),
     )
 
--- those of N, and those of L
-calls : (k : tie.After-in-column2) → Read 4 (k .before .in-column .result) (k .before .before .before .before .column .result)
-    (fs (k .before .before .before .before .before .before .before .before))
+-- those of N, and those of L, where the fields are read and are not too many
+abbrev fields-read : tie.After-in-column2 → tie.After-read-fields
+fields-read k = k .before .before .before .before .before .before .before .before
+
+few : (k : tie.After-in-column2) → fields-read k .read-fields .result ≤ maxFields
+few k = k .before .before .before .before .before .before .if2 .left
+
+calls : (k : tie.After-in-column2)
+    → Read 4 (k .before .in-column .result) (k .before .before .before .before .column .result) (fs (fields-read k))
 calls k = let column = k .before .before .before .before .column in
-    column-read (k .before .before .before .before .before .before .before .before) (k .before .before .before .before .before .before .if2 .left) 4 (omega arith)
+    column-read (fields-read k) (few k) 4 (omega arith)
     (k .before .in-column .result) (k .before .in-column .ensures) (column .result) (column .ensures)
 
-caps : (k : tie.After-in-column2) → Read 5 (k .in-column2 .result) (k .before .before .column2 .result)
-    (fs (k .before .before .before .before .before .before .before .before))
+caps : (k : tie.After-in-column2)
+    → Read 5 (k .in-column2 .result) (k .before .before .column2 .result) (fs (fields-read k))
 caps k = let column = k .before .before .column2 in
-    column-read (k .before .before .before .before .before .before .before .before) (k .before .before .before .before .before .before .if2 .left) 5 (omega arith)
+    column-read (fields-read k) (few k) 5 (omega arith)
     (k .in-column2 .result) (k .in-column2 .ensures) (column .result) (column .ensures)
 
 array-copy-out-budget : tie.Need-array-copy-out-budget
@@ -119,7 +127,7 @@ budget-requires c κs = search needs
 returns-3 : tie.Need-returns-3
 returns-3 c = let p = c .before .before .before in
     let k = p .before .before .before .before in
-    let f = k .before .before .before .before .before .before .before .before in
+    let f = fields-read k in
     let v : ℕ → ℤ = λ j. getD (f .read-fields .last .1 .0) j (pos 0) in
     c .budget .ensures
     ∙ same-order (fs f)

@@ -5,6 +5,7 @@ use native.Mathlib.Omega.{arith}
 use mathlib.Core.Path.{_≡_, refl}
 use lib.IntN.{ℤ, pos}
 use lib.ListN.{length, getD, length-set}
+use Rattle.rules.specs.Limits.{maxLines}
 use Rattle.quote.proofs.Ranges.{read, read-back}
 use Rattle.order.proofs.Columns.{stored}
 use Rattle.order.proofs.column.Statement.{statement}
@@ -12,12 +13,12 @@ use Rattle.order.proofs.column.Tie as tie
 
 abbrev Inv-loop : tie.InvT-loop
 Inv-loop v from out₀ i₀ out i =
-    (i ≤ 16)
-    × (length out ≡ 16)
+    (i ≤ maxLines)
+    × (length out ≡ maxLines)
     × ((q : ℕ) → q < i → getD out q (pos 0) ≡ getD v (from + 2 * q) (pos 0))
 
 abbrev μ-loop : tie.MeasureT-loop
-μ-loop v from out₀ i₀ out i = 16 - i
+μ-loop v from out₀ i₀ out i = maxLines - i
 
 loop-holds : tie.Need-loop-holds Inv-loop μ-loop
 loop-holds c = (omega arith, refl, λ q h. absurd (omega arith))

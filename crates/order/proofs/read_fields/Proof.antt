@@ -64,9 +64,10 @@ loop-again c = let e = c .before .before .before .before .before in
     ∙ ap (λ (n : ℕ). fieldOf (take n (drop from s))) long in
     let on = reading-on s (a .v .now) (l .loop .v) (l .loop .n) from (l .loop .inv) there
     (omega (arith, e .end .ensures .0, e .end .ensures .2)) (read (value .result)) is in
-    subst (λ (v : List ℤ). Reading s (a .v .now) v (l .loop .n + 1) (e .end .result + 1)) (sym (c .before .place .ensures))
-    (subst (λ (i : ℕ). Reading s (a .v .now) (set (l .loop .v) (l .loop .n) (read (value .result))) (l .loop .n + 1) (i + 1))
-    (sym (e .end .ensures .0)) on)
+    let placed = set (l .loop .v) (l .loop .n) (read (value .result)) in
+    subst (λ (v : List ℤ). Reading s (a .v .now) v (l .loop .n + 1) (e .end .result + 1))
+    (sym (c .before .place .ensures))
+    (subst (λ (i : ℕ). Reading s (a .v .now) placed (l .loop .n + 1) (i + 1)) (sym (e .end .ensures .0)) on)
 
 same-length : tie.Need-same-length Inv-loop μ-loop
 same-length c = c .before .loop .inv .long

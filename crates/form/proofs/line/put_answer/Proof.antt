@@ -64,7 +64,8 @@ returns c = let r = c .before .before in
     let text = joined budget answer place
     ∙ ap (λ (n : ℕ). budget ++ space ∷ answer ++ space ∷ decimal n ++ lf ∷ []) (p .before .wide-size .ensures)
     ∙ ap line (q .tell .ensures) in (
-      subst (λ (x : List ℕ). WroteAt (start .at) x (start .out .now) (r .put-byte3 .last .0) (r .put-byte3 .result)) text w,
+      subst (λ (x : List ℕ). WroteAt (start .at) x (start .out .now) (r .put-byte3 .last .0) (r .put-byte3 .result))
+          text w,
       omega (arith, r .put-byte3 .ensures .ends, p .put-number3 .ensures .1),
     )
 
