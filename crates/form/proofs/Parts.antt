@@ -1,114 +1,166 @@
--- A part of an input byte by byte.
+-- A part behind a part is answered as the two in one, and a part of one byte as an LF or another byte is.
 -- Assumes nothing.
 use Prim.Native.Nat.{ℕ, suc, _+_, _≤_, _<_, min}
 use native.Mathlib.Numerals.{add-one}
 use native.Mathlib.Omega.{arith}
-use mathlib.Core.Path.{_≡_, refl, sym, ap, _∙_}
-use mathlib.Core.Bool.{true, false}
-use mathlib.Core.List.{List, [], _∷_, _++_}
-use lib.Dec.{eqb}
-use lib.ListN.{length, getD, drop, set, length-set, drop-of-length-le}
-use lib.Seq.{drop-cons}
-use borrow.Author.Tests.{eq-eqb, ne-eqb}
+use mathlib.Core.Path.{_≡_, refl, sym, ap, _∙_, subst}
+use mathlib.Core.List.{List, [], _∷_, _++_, map, append-nil}
+use lib.Dec.{eqb, ltb}
+use lib.ListN.{length, take, set, length-append, length-take}
+use lib.Seq.{take-all, take-take, take-suc-set, take-append-le, set-out, length-take-le}
+use borrow.Author.Tests.{eq-eqb, ne-eqb, ltb-true, ltb-false}
 use Rattle.rules.proofs.Tests.{by-test}
-use Rattle.form.specs.declared.Taken.{Taken}
-use Rattle.text.specs.Text.{lf}
-use Rattle.form.specs.Parts.{firstLine, ends, passed, held, roomAfter, TakenIn}
-use Rattle.form.proofs.Room.{count-none, after-none, held-more, after-more, held-least}
+use Rattle.text.specs.Text.{lf, WroteAt}
+use Rattle.text.proofs.Written.{wrote-none, wrote-on}
+use Rattle.order.specs.Orders.{asked}
+use Rattle.form.specs.declared.Standing.{Standing}
+use Rattle.form.specs.Input.{withoutCr, ended, behind, last}
+use Rattle.form.specs.Output.{line, lines}
+use Rattle.form.specs.Parts.{roomBytes, heldAfter, roomAfter, Answered, EndAnswered}
+use Rattle.form.proofs.Seams.{held-on, behind-held, lines-then, held-then}
 
-module _ (s : List ℕ) (i : ℕ) (there : i < length s) where
-  module _ (here : getD s i 0 ≡ lf) where
-    pub firstLine-lf : firstLine (drop i s) ≡ []
-    firstLine-lf = rw (drop-cons s i 0, eq-eqb (getD s i 0) lf here)
+-- THE ROOM
 
-    pub ends-lf : ends (drop i s) ≡ true
-    ends-lf = rw (drop-cons s i 0, eq-eqb (getD s i 0) lf here)
+pub take-least : (n : ℕ) (s : List ℕ) → take (min n (length s)) s ≡ take n s
+take-least n s =
+    by-test (ltb n (length s))
+    (λ y. let m : min n (length s) ≡ n = omega (arith, ltb-true n (length s) y) in rw m)
+    (λ f. let h = ltb-false n (length s) f in
+    let m : min n (length s) ≡ length s = omega arith in
+    rw (m, take-all n s h, take-all (length s) s (omega arith)))
 
-    pub passed-lf : passed (drop i s) ≡ 1
-    passed-lf = rw (firstLine-lf, ends-lf)
+-- the count goes with what is held
+room-on : (room : List ℕ) (n : ℕ) (held s t : List ℕ) → length held ≡ n → n ≤ roomBytes
+    → roomAfter room n (s ++ t) ≡ roomAfter (roomAfter room n s) (length (heldAfter held s)) t
+room-on room n held [] t e h =
+    ap (λ (k : ℕ). roomAfter room k t) (sym e ∙ ap length (sym (take-all roomBytes held (omega arith))))
+room-on room n held (b ∷ s) t e h =
+    by-test (eqb b lf)
+    (λ y. rw y (room-on room 0 [] s t refl (omega arith)))
+    (λ f. let more = held ++ (b ∷ []) in
+    let k = min (n + 1) roomBytes in
+    let long : length (take roomBytes more) ≡ k
+    = omega (arith, length-take roomBytes more, length-append held (b ∷ [])) in
+    rw f (
+    room-on (set room n b) k (take roomBytes more) s t long (omega arith)
+    ∙ ap (λ (u : List ℕ). roomAfter (roomAfter (set room n b) k s) (length u) t) (behind-held more s)
+    ))
 
-  module _ (not-here : getD s i 0 ≡ lf → ⊥) where
-    firstLine-on : firstLine (drop i s) ≡ getD s i 0 ∷ firstLine (drop (i + 1) s)
-    firstLine-on = rw (add-one, drop-cons s i 0, ne-eqb (getD s i 0) lf not-here)
+-- PART BEHIND PART
 
-    ends-on : ends (drop i s) ≡ ends (drop (i + 1) s)
-    ends-on = rw (add-one, drop-cons s i 0, ne-eqb (getD s i 0) lf not-here)
-
-    passed-on : passed (drop i s) ≡ suc (passed (drop (i + 1) s))
-    passed-on = rw (firstLine-on, ends-on) (omega arith)
-
-module _ (s : List ℕ) (i : ℕ) (past : length s ≤ i) where
-  pub firstLine-end : firstLine (drop i s) ≡ []
-  firstLine-end = rw (drop-of-length-le s past)
-
-  pub ends-end : ends (drop i s) ≡ false
-  ends-end = rw (drop-of-length-le s past)
-
-  pub passed-end : passed (drop i s) ≡ 0
-  passed-end = rw (drop-of-length-le s past)
-
--- a byte at least passes, if there is one
-passed-first : (b : ℕ) (s : List ℕ) → 0 < passed (b ∷ s)
-passed-first b s = by-test (eqb b lf) (λ y. rw y (omega arith)) (λ n. rw n (omega arith))
-
-pub passed-some : (s : List ℕ) (i : ℕ) → i < length s → 0 < passed (drop i s)
-passed-some s i h = rw (drop-cons s i 0) (passed-first (getD s i 0) (drop (suc i) s))
-
--- A PART HALF TAKEN IN
-
--- at byte i, with k bytes held in the room, what is still to come makes what all of it made at the start
-pub record Going (part : List ℕ) (at : ℕ) (start : List ℕ) (first : ℕ) (room : List ℕ) (i k : ℕ) : Type 0 where
-  pub fits : k ≤ length room
-  pub long : length room ≡ length start
-  pub same-held : held room k (firstLine (drop i part)) ≡ held start first (firstLine (drop at part))
-  pub same-room : roomAfter room k (firstLine (drop i part)) ≡ roomAfter start first (firstLine (drop at part))
-  pub same-passed : i + passed (drop i part) ≡ at + passed (drop at part)
-  pub same-ends : ends (drop i part) ≡ ends (drop at part)
-
-pub starting : (part : List ℕ) (at : ℕ) (room : List ℕ) (k : ℕ) → k ≤ length room → Going part at room k room at k
-starting part at room k h =
-    record { fits = h; long = refl; same-held = refl; same-room = refl; same-passed = refl; same-ends = refl }
-
-module _ (part : List ℕ) (at : ℕ) (start : List ℕ) (first : ℕ) (room : List ℕ) (i k : ℕ)
-    (going : Going part at start first room i k) where
-  -- one byte more
-  pub going-on : i < length part → (getD part i 0 ≡ lf → ⊥)
-      → Going part at start first (set room k (getD part i 0)) (i + 1) (min (k + 1) (length room))
-  going-on h b =
-      let on = firstLine-on part i h b in
-      let more = firstLine (drop (i + 1) part) in
+module _ {s t room room′ room″ out out′ out″ : List ℕ} {n at : ℕ} {r r′ : Standing} where
+  pub answered-on : Answered s room n room′ out at out′ r → Answered t room′ (r .n) room″ out′ (r .used) out″ r′
+      → length room ≡ roomBytes → n ≤ roomBytes → r .used ≤ length out → Answered (s ++ t) room n room″ out at out″ r′
+  answered-on first next all few fits =
+      let h = take n room in
+      let then = held-then h s t in
+      let long : length h ≡ n = length-take-le n room (omega arith) in
+      let count : min (r .n) roomBytes ≡ length (heldAfter h s)
+      = omega (arith, first .count, length-take roomBytes (behind h s)) in
+      let start : min n roomBytes ≡ n = omega arith in
       record {
-        fits = omega (arith, length-set room k (getD part i 0));
-        long = length-set room k (getD part i 0) ∙ going .long;
-        same-held =
-            held-more room k (getD part i 0) more ∙ ap (held room k) (sym on) ∙ going .same-held;
-        same-room =
-            after-more room k (getD part i 0) more ∙ ap (roomAfter room k) (sym on) ∙ going .same-room;
-        same-passed = omega (arith, passed-on part i h b, going .same-passed);
-        same-ends = sym (ends-on part i h b) ∙ going .same-ends;
+        text = subst (λ (x : List ℕ). WroteAt at x out out″ (r′ .used))
+            (ap (λ (u : List ℕ). lines (map asked (ended h s)) ++ lines (map asked (ended u t))) (first .held)
+            ∙ sym (lines-then h s t))
+            (wrote-on (first .text) fits (next .text));
+        count = next .count ∙ ap (λ (u : List ℕ). length (heldAfter u t)) (first .held) ∙ ap length (sym then);
+        held = next .held ∙ ap (λ (u : List ℕ). heldAfter u t) (first .held) ∙ sym then;
+        bytes =
+            next .bytes
+            ∙ ap (λ (x : List ℕ). roomAfter x (min (r .n) roomBytes) t) (first .bytes)
+            ∙ ap (λ (k : ℕ). roomAfter (roomAfter room (min n roomBytes) s) k t) count
+            ∙ ap (λ (k : ℕ). roomAfter (roomAfter room k s) (length (heldAfter h s)) t) start
+            ∙ sym (room-on room n h s t long few)
+            ∙ ap (λ (k : ℕ). roomAfter room k (s ++ t)) (sym start);
       }
 
-  -- no byte more
-  module _ (done : firstLine (drop i part) ≡ []) where
-    count-done : k ≡ length (held start first (firstLine (drop at part)))
-    count-done =
-        sym (count-none room k (going .fits)) ∙ ap (λ (s : List ℕ). length (held room k s)) (sym done)
-        ∙ ap length (going .same-held)
+-- NO BYTE, AND ONE
 
-    room-done : room ≡ roomAfter start first (firstLine (drop at part))
-    room-done =
-        sym (after-none room k (going .fits)) ∙ ap (roomAfter room k) (sym done) ∙ going .same-room
+module _ (room out : List ℕ) (n at : ℕ) (all : length room ≡ roomBytes) (few : n ≤ roomBytes) where
+  long : length (take n room) ≡ n
+  long = length-take-le n room (omega arith)
 
-    -- so all is taken in
-    pub taken : (n : ℕ) → first ≡ min n (length start) → (r : Taken) → r .n ≡ k → r .next ≡ i + passed (drop i part)
-        → r .ended ≡ ends (drop i part) → TakenIn part at start room n r
-    taken n f r k′ next e =
-        let more = firstLine (drop at part) in
-        let h : held start first more ≡ held start n more
-        = ap (λ (m : ℕ). held start m more) f ∙ held-least start n more in
-        record {
-          ended = e ∙ going .same-ends;
-          next = next ∙ going .same-passed;
-          count = k′ ∙ count-done ∙ ap length h;
-          bytes = room-done ∙ ap (λ (s : List ℕ). s ++ drop (length s) start) h;
-        }
+  pub answered-none : Answered [] room n room out at out (record { n = n; used = at })
+  answered-none =
+      let same = take-all roomBytes (take n room) (omega (arith, long)) in
+      record {
+        text = wrote-none at out;
+        count = sym long ∙ ap length (sym same);
+        held = sym same;
+        bytes = refl;
+      }
+
+  pub answered-lf : (b : ℕ) → b ≡ lf → (out′ : List ℕ) (used : ℕ)
+      → WroteAt at (line (asked (withoutCr (take n room)))) out out′ used
+      → Answered (b ∷ []) room n room out at out′ (record { n = 0; used = used })
+  answered-lf b e out′ used w =
+      let y = eq-eqb b lf e in
+      record {
+        text =
+            let one = sym (append-nil (line (asked (withoutCr (take n room))))) in
+            rw y (subst (λ (x : List ℕ). WroteAt at x out out′ used) one w);
+        count = rw y;
+        held = rw y;
+        bytes = rw y;
+      }
+
+  held-one : (b : ℕ) → take (min (n + 1) roomBytes) (set room n b) ≡ take roomBytes (take n room ++ (b ∷ []))
+  held-one b =
+      by-test (ltb n roomBytes)
+      (λ y. let h = ltb-true n roomBytes y in
+      let m : min (n + 1) roomBytes ≡ suc n = omega arith in
+      let k : length (take n room ++ (b ∷ [])) ≤ roomBytes
+      = omega (arith, length-append (take n room) (b ∷ []), long) in
+      rw m (take-suc-set room n b (omega arith) ∙ sym (take-all roomBytes (take n room ++ (b ∷ [])) k)))
+      (λ f. let h = ltb-false n roomBytes f in
+      let m : min (n + 1) roomBytes ≡ roomBytes = omega arith in
+      let e : n ≡ roomBytes = omega arith in
+      rw (m, set-out room n b (omega arith), e) (
+      sym (held-on roomBytes room (b ∷ []) ∙ take-append-le roomBytes room (b ∷ []) (omega arith))
+      ))
+
+  pub answered-other : (b : ℕ) → (b ≡ lf → ⊥)
+      → Answered (b ∷ []) room n (set room n b) out at out (record { n = min (n + 1) roomBytes; used = at })
+  answered-other b e =
+      let f = ne-eqb b lf e in
+      let start : min n roomBytes ≡ n = omega arith in
+      record {
+        text = rw f (wrote-none at out);
+        count =
+            let more = take n room ++ (b ∷ []) in
+            rw f (omega (arith, length-take roomBytes more, length-append (take n room) (b ∷ []), long));
+        held = rw f (held-one b);
+        bytes = rw f (ap (λ (k : ℕ). set room k b) (sym start));
+      }
+
+-- no more than the room is held
+pub answered-few : {s room room′ out out′ : List ℕ} {n at : ℕ} {r : Standing} → Answered s room n room′ out at out′ r
+    → r .n ≤ roomBytes
+answered-few {s} {room} {room′} {out} {out′} {n} {at} {r} a =
+    omega (arith, a .count, length-take roomBytes (behind (take n room) s))
+
+pub answered-least : {s room room′ out out′ : List ℕ} {n at : ℕ} {r : Standing} → length room ≡ roomBytes
+    → Answered s room (min n roomBytes) room′ out at out′ r → Answered s room n room′ out at out′ r
+answered-least {s} {room} {room′} {out} {out′} {n} {at} {r} all a =
+    let same : take (min n roomBytes) room ≡ take n room
+    = ap (λ (k : ℕ). take (min n k) room) (sym all) ∙ take-least n room in
+    let twice : min (min n roomBytes) roomBytes ≡ min n roomBytes = omega arith in
+    record {
+      text = subst (λ (h : List ℕ). WroteAt at (lines (map asked (ended h s))) out out′ (r .used)) same (a .text);
+      count = a .count ∙ ap (λ (h : List ℕ). length (heldAfter h s)) same;
+      held = a .held ∙ ap (λ (h : List ℕ). heldAfter h s) same;
+      bytes = a .bytes ∙ ap (λ (k : ℕ). roomAfter room k s) twice;
+    }
+
+-- THE END OF THE INPUT
+
+pub end-none : (out : List ℕ) → EndAnswered [] out out 0
+end-none out = wrote-none 0 out
+
+end-line : (b : ℕ) (s : List ℕ) → line (asked (b ∷ s)) ≡ lines (map asked (last (b ∷ s)))
+end-line b s = sym (append-nil (line (asked (b ∷ s))))
+
+pub end-some : (held out out′ : List ℕ) (used : ℕ) → 0 < length held → WroteAt 0 (line (asked held)) out out′ used
+    → EndAnswered held out out′ used
+end-some [] out out′ used h w = absurd (omega arith)
+end-some (b ∷ s) out out′ used h w = subst (λ (x : List ℕ). WroteAt 0 x out out′ used) (end-line b s) w

@@ -1,28 +1,24 @@
--- Nothing is lost or joined where a part of the input ends: what the program holds of an order is enough to answer
--- it, and however the input is cut, its steps answer the orders of the whole.
+-- Nothing is lost or joined where a part of the input ends: what is held of an order is enough to answer it, and
+-- however the input is cut, what is written for its parts is what answers the whole.
 -- Assumes nothing.
-use Prim.Native.Nat.{ℕ, suc, _+_, _-_, _≤_}
+use Prim.Native.Nat.{ℕ, _+_, _-_, _≤_}
 use native.Mathlib.Omega.{arith}
-use mathlib.Core.Path.{_≡_, refl, sym, ap, _∙_, subst}
-use mathlib.Core.Bool.{Bool, true, false, cond}
-use mathlib.Core.List.{List, [], _∷_, _++_, map, append-assoc, append-nil}
-use lib.Dec.{T, eqb, ltb}
-use lib.ListN.{length, getD, take, drop, length-take}
-use lib.Seq.{take-all, take-at, take-append-le, length-take-le}
-use borrow.Author.Tests.{ltb-true, ltb-false, eq-eqb, ne-eqb, eqb-true, eqb-false}
+use mathlib.Core.Path.{_≡_, refl, sym, ap, _∙_}
+use mathlib.Core.List.{List, [], _∷_, _++_, map, map-append, append-assoc, flatten}
+use lib.Dec.{eqb, ltb}
+use lib.ListN.{length, getD, take}
+use lib.Seq.{take-all, take-take, take-at, take-append-le, length-take-le}
+use borrow.Author.Tests.{ltb-true, ltb-false}
 use Rattle.rules.specs.Quote.{Quote}
-use Rattle.order.specs.Orders.{asked}
 use Rattle.rules.proofs.Tests.{by-test}
+use Rattle.order.specs.Orders.{asked}
 use Rattle.order.proofs.Asked.{too-long}
 use Rattle.text.specs.Text.{lf}
-use Rattle.form.specs.Input.{cr, withoutCr, orderBefore, ordersFrom}
-use Rattle.form.specs.Parts.{firstLine, ends, passed}
+use Rattle.form.specs.Input.{cr, withoutCr, ended, behind, last, answers}
+use Rattle.form.specs.Output.{line, lines}
+use Rattle.form.specs.Parts.{roomBytes, heldAfter, output}
 
--- the room of the program: an order of 1,023 bytes, a CR, and one byte more
-abbrev room : ℕ
-room = 1025
-
--- WHAT IS HELD
+-- WHAT IS HELD IS ENOUGH
 
 -- the first bytes of what is held with more are the first bytes of all
 pub held-on : (n : ℕ) (s t : List ℕ) → take n (take n s ++ t) ≡ take n (s ++ t)
@@ -32,83 +28,116 @@ held-on n s t =
     take-at (take n s) t n (length-take-le n s (omega arith)) ∙ sym (take-append-le n s t (omega arith)))
     (λ f. ap (λ (u : List ℕ). take n (u ++ t)) (take-all n s (ltb-false n (length s) f)))
 
-length-order : (e : Bool) (s : List ℕ) → length s ≤ length (orderBefore e s) + 1
-length-order false s = omega arith
-length-order true s =
+length-order : (s : List ℕ) → length s ≤ length (withoutCr s) + 1
+length-order s =
     by-test (eqb (getD s (length s - 1) 0) cr)
     (λ y. rw y (omega (arith, length-take-le (length s - 1) s (omega arith))))
     (λ n. rw n (omega arith))
 
--- it is enough for the answer
-pub enough : (e : Bool) (s : List ℕ) → asked (orderBefore e (take room s)) ≡ asked (orderBefore e s)
-enough e s =
-    by-test (ltb room (length s))
-    (λ y. let h = ltb-true room (length s) y in
-    let k = length-take-le room s (omega arith) in
-    too-long (orderBefore e (take room s)) (omega (arith, length-order e (take room s)))
-    ∙ sym (too-long (orderBefore e s) (omega (arith, length-order e s))))
-    (λ f. ap (λ (u : List ℕ). asked (orderBefore e u)) (take-all room s (ltb-false room (length s) f)))
+-- for an order that an LF ends, and for the last
+ended-enough : (s : List ℕ) → asked (withoutCr (take roomBytes s)) ≡ asked (withoutCr s)
+ended-enough s =
+    by-test (ltb roomBytes (length s))
+    (λ y. let h = ltb-true roomBytes (length s) y in
+    let k = length-take-le roomBytes s (omega arith) in
+    too-long (withoutCr (take roomBytes s)) (omega (arith, length-order (take roomBytes s)))
+    ∙ sym (too-long (withoutCr s) (omega (arith, length-order s))))
+    (λ f. ap (λ (u : List ℕ). asked (withoutCr u)) (take-all roomBytes s (ltb-false roomBytes (length s) f)))
 
--- A PART WITHOUT AN LF
+last-enough : (s : List ℕ) → asked (take roomBytes s) ≡ asked s
+last-enough s =
+    by-test (ltb roomBytes (length s))
+    (λ y. let h = ltb-true roomBytes (length s) y in
+    let k = length-take-le roomBytes s (omega arith) in
+    too-long (take roomBytes s) (omega arith) ∙ sym (too-long s (omega arith)))
+    (λ f. ap asked (take-all roomBytes s (ltb-false roomBytes (length s) f)))
 
-firstLine-all : (t : List ℕ) → ends t ≡ false → firstLine t ≡ t
-firstLine-all [] e = refl
-firstLine-all (b ∷ t) e =
+-- for all that a part ends
+pub ended-held : (begun part : List ℕ) → map asked (ended (take roomBytes begun) part) ≡ map asked (ended begun part)
+ended-held begun [] = refl
+ended-held begun (b ∷ part) =
     by-test (eqb b lf)
-    (λ y. absurd (subst T (rw y at e) tt))
-    (λ n. rw n (ap (λ (s : List ℕ). b ∷ s) (firstLine-all t (rw n at e))))
+    (λ y. rw y (ap (λ (q : Quote). q ∷ map asked (ended [] part)) (ended-enough begun)))
+    (λ n. let more = b ∷ [] in
+    rw n (
+    sym (ended-held (take roomBytes begun ++ more) part)
+    ∙ ap (λ (u : List ℕ). map asked (ended u part)) (held-on roomBytes begun more)
+    ∙ ended-held (begun ++ more) part
+    ))
 
-orders-on : (begun t rest : List ℕ) → ends t ≡ false → ordersFrom begun (t ++ rest) ≡ ordersFrom (begun ++ t) rest
-orders-on begun [] rest e = rw append-nil
-orders-on begun (b ∷ t) rest e =
+-- and for what is held after it
+pub behind-held : (begun part : List ℕ) → heldAfter (take roomBytes begun) part ≡ heldAfter begun part
+behind-held begun [] = take-take roomBytes roomBytes begun (omega arith)
+behind-held begun (b ∷ part) =
     by-test (eqb b lf)
-    (λ y. absurd (subst T (rw y at e) tt))
-    (λ n. rw n (orders-on (begun ++ (b ∷ [])) t rest (rw n at e) ∙ rw append-assoc))
+    (λ y. rw y)
+    (λ n. let more = b ∷ [] in
+    rw n (
+    sym (behind-held (take roomBytes begun ++ more) part)
+    ∙ ap (λ (u : List ℕ). heldAfter u part) (held-on roomBytes begun more)
+    ∙ behind-held (begun ++ more) part
+    ))
 
--- A PART WITH AN LF
+last-held : (s : List ℕ) → map asked (last (take roomBytes s)) ≡ map asked (last s)
+last-held [] = refl
+last-held (b ∷ s) = ap (λ (q : Quote). q ∷ []) (last-enough (b ∷ s))
 
-orders-end : (begun t rest : List ℕ) → ends t ≡ true
-    → ordersFrom begun (t ++ rest) ≡ withoutCr (begun ++ firstLine t) ∷ ordersFrom [] (drop (passed t) t ++ rest)
-orders-end begun [] rest e = absurd (subst T (sym e) tt)
-orders-end begun (b ∷ t) rest e =
-    by-test (eqb b lf) (λ y. rw (y, append-nil))
-    (λ n.
-    let p : suc (length (firstLine t)) + cond (ends t) 1 0 ≡ suc (passed t) = omega arith in
-    rw (n, p) (orders-end (begun ++ (b ∷ [])) t rest (rw n at e) ∙ rw append-assoc))
+-- PART BEHIND PART
 
--- THE STEPS OF THE PROGRAM
+pub ended-on : (begun s t : List ℕ) → ended begun (s ++ t) ≡ ended begun s ++ ended (behind begun s) t
+ended-on begun [] t = refl
+ended-on begun (b ∷ s) t =
+    by-test (eqb b lf)
+    (λ y. rw y (ap (λ (os : List (List ℕ)). withoutCr begun ∷ os) (ended-on [] s t)))
+    (λ n. rw n (ended-on (begun ++ (b ∷ [])) s t))
 
--- `begun` are the bytes of an order before a part, of which the first are held; `rest` is what comes after the part.
-module _ (begun part rest : List ℕ) where
-  -- up to an LF: the order is answered, and the next one begins behind it
-  pub at-lf : ends part ≡ true
-      → map asked (ordersFrom begun (part ++ rest))
-      ≡ asked (orderBefore true (take room (take room begun ++ firstLine part)))
-      ∷ map asked (ordersFrom [] (drop (passed part) part ++ rest))
-  at-lf e =
-      let order = ap (λ (u : List ℕ). asked (orderBefore true u)) (held-on room begun (firstLine part)) in
-      ap (map asked) (orders-end begun part rest e)
-      ∙ ap (λ (q : Quote). q ∷ map asked (ordersFrom [] (drop (passed part) part ++ rest)))
-      (sym (order ∙ enough true (begun ++ firstLine part)))
+pub behind-on : (begun s t : List ℕ) → behind begun (s ++ t) ≡ behind (behind begun s) t
+behind-on begun [] t = refl
+behind-on begun (b ∷ s) t =
+    by-test (eqb b lf) (λ y. rw y (behind-on [] s t)) (λ n. rw n (behind-on (begun ++ (b ∷ [])) s t))
 
-  -- up to the end of the part: nothing is answered, and the order goes on
-  pub at-part-end : ends part ≡ false
-      → (ordersFrom begun (part ++ rest) ≡ ordersFrom (begun ++ firstLine part) rest)
-      × (take room (take room begun ++ firstLine part) ≡ take room (begun ++ firstLine part))
-  at-part-end e = (
-    rw (firstLine-all part e) (orders-on begun part rest e),
-    held-on room begun (firstLine part),
-  )
+pub lines-on : (p q : List Quote) → lines (p ++ q) ≡ lines p ++ lines q
+lines-on [] q = refl
+lines-on (a ∷ p) q = ap (λ (s : List ℕ). line a ++ s) (lines-on p q) ∙ sym (append-assoc (line a) (lines p) (lines q))
 
--- at the end of the input: what is held is answered, if there is any
-pub at-input-end : (begun : List ℕ)
-    → map asked (ordersFrom begun [])
-    ≡ cond (eqb (length (take room begun)) 0) [] (asked (orderBefore false (take room begun)) ∷ [])
-at-input-end begun =
-    by-test (eqb (length begun) 0)
-    (λ y. let e = eqb-true (length begun) 0 y in
-    let none : length (take room begun) ≡ 0 = omega (arith, length-take room begun) in
-    rw (y, eq-eqb (length (take room begun)) 0 none))
-    (λ n. let some : length (take room begun) ≡ 0 → ⊥
-    = λ z. eqb-false (length begun) 0 n (omega (arith, length-take room begun)) in
-    rw (n, ne-eqb (length (take room begun)) 0 some) (ap (λ (q : Quote). q ∷ []) (sym (enough false begun))))
+-- the lines of a part, and then of what follows with what is held
+pub lines-then : (begun s t : List ℕ)
+    → lines (map asked (ended begun (s ++ t)))
+    ≡ lines (map asked (ended begun s)) ++ lines (map asked (ended (heldAfter begun s) t))
+lines-then begun s t =
+    ap (λ (os : List (List ℕ)). lines (map asked os)) (ended-on begun s t)
+    ∙ ap lines (map-append asked (ended begun s) (ended (behind begun s) t))
+    ∙ lines-on (map asked (ended begun s)) (map asked (ended (behind begun s) t))
+    ∙ ap (λ (qs : List Quote). lines (map asked (ended begun s)) ++ lines qs) (sym (ended-held (behind begun s) t))
+
+pub held-then : (begun s t : List ℕ) → heldAfter begun (s ++ t) ≡ heldAfter (heldAfter begun s) t
+held-then begun s t = ap (take roomBytes) (behind-on begun s t) ∙ sym (behind-held (behind begun s) t)
+
+-- THE WHOLE INPUT
+
+-- the answers to an input of which an order has begun
+abbrev rest : List ℕ → List ℕ → List Quote
+rest begun s = map asked (ended begun s) ++ map asked (last (behind begun s))
+
+rest-on : (begun s t : List ℕ) → rest begun (s ++ t) ≡ map asked (ended begun s) ++ rest (behind begun s) t
+rest-on begun s t =
+    rw (ended-on begun s t, behind-on begun s t)
+    (rw (map-append asked (ended begun s) (ended (behind begun s) t), append-assoc))
+
+output-rest : (begun : List ℕ) (parts : List (List ℕ))
+    → output (take roomBytes begun) parts ≡ lines (rest begun (flatten parts))
+unfolding flatten
+output-rest begun [] = ap lines (last-held begun)
+output-rest begun (part ∷ parts) =
+    let first = map asked (ended begun part) in
+    let more = flatten parts in
+    ap (λ (qs : List Quote). lines qs ++ output (heldAfter (take roomBytes begun) part) parts) (ended-held begun part)
+    ∙ ap (λ (h : List ℕ). lines first ++ output h parts) (behind-held begun part)
+    ∙ ap (λ (s : List ℕ). lines first ++ s) (output-rest (behind begun part) parts)
+    ∙ sym (lines-on first (rest (behind begun part) more))
+    ∙ ap lines (sym (rest-on begun part more))
+
+-- However an input is cut into parts, what is written for them is its answers, a line each.
+pub whole-input : (parts : List (List ℕ)) → output [] parts ≡ lines (answers (flatten parts))
+whole-input parts =
+    let s = flatten parts in output-rest [] parts ∙ ap lines (sym (map-append asked (ended [] s) (last (behind [] s))))

@@ -2,7 +2,7 @@
 -- both; an empty input has no order.
 -- Assumes nothing.
 use Prim.Native.Nat.{ℕ, _-_}
-use mathlib.Core.Bool.{Bool, cond}
+use mathlib.Core.Bool.{cond}
 use mathlib.Core.List.{List, [], _∷_, _++_, map}
 use lib.Dec.{eqb}
 use lib.ListN.{length, getD, take}
@@ -17,17 +17,23 @@ cr = 13
 abbrev pub withoutCr : List ℕ → List ℕ
 withoutCr s = cond (eqb (getD s (length s - 1) 0) cr) (take (length s - 1) s) s
 
--- an order, from what stands before its end: an LF, or the end of the input
-abbrev pub orderBefore : Bool → List ℕ → List ℕ
-orderBefore ended s = cond ended (withoutCr s) s
+-- the orders that an LF ends, after bytes with which the first has begun
+abbrev pub ended : List ℕ → List ℕ → List (List ℕ)
+ended begun [] = []
+ended begun (b ∷ s) = cond (eqb b lf) (withoutCr begun ∷ ended [] s) (ended (begun ++ (b ∷ [])) s)
 
--- the orders of what is left of an input, after bytes with which one has begun
-abbrev pub ordersFrom : List ℕ → List ℕ → List (List ℕ)
-ordersFrom begun [] = cond (eqb (length begun) 0) [] (begun ∷ [])
-ordersFrom begun (b ∷ s) = cond (eqb b lf) (withoutCr begun ∷ ordersFrom [] s) (ordersFrom (begun ++ (b ∷ [])) s)
+-- the bytes behind the last LF; with no LF, those with which an order had begun stand before them
+abbrev pub behind : List ℕ → List ℕ → List ℕ
+behind begun [] = begun
+behind begun (b ∷ s) = cond (eqb b lf) (behind [] s) (behind (begun ++ (b ∷ [])) s)
+
+-- the last order, as it stands before the end of the input: none if it has no byte
+abbrev pub last : List ℕ → List (List ℕ)
+last [] = []
+last (b ∷ s) = (b ∷ s) ∷ []
 
 abbrev pub orders : List ℕ → List (List ℕ)
-orders s = ordersFrom [] s
+orders s = ended [] s ++ last (behind [] s)
 
 abbrev pub answers : List ℕ → List Quote
 answers s = map asked (orders s)

@@ -1,38 +1,44 @@
--- An input that comes in parts: what a part adds to the bytes that are held of the order that has begun.
+-- An input that comes in parts: what is written for a part and at the end of the input, and what is held between them.
 -- Assumes nothing.
-use Prim.Native.Nat.{ℕ, _+_}
+use Prim.Native.Nat.{ℕ, _+_, min}
 use mathlib.Core.Path.{_≡_}
-use mathlib.Core.Bool.{Bool, false, _||_, cond}
-use mathlib.Core.List.{List, [], _∷_, _++_}
+use mathlib.Core.Bool.{cond}
+use mathlib.Core.List.{List, [], _∷_, _++_, map}
 use lib.Dec.{eqb}
-use lib.ListN.{length, take, drop}
-use Rattle.form.specs.declared.Taken.{Taken}
-use Rattle.text.specs.Text.{lf}
+use lib.ListN.{length, take, set}
+use Rattle.text.specs.Text.{lf, WroteAt}
+use Rattle.order.specs.Orders.{maxBytes, asked}
+use Rattle.form.specs.declared.Standing.{Standing}
+use Rattle.form.specs.Input.{ended, behind, last}
+use Rattle.form.specs.Output.{lines}
 
--- the bytes before the first LF, and whether there is one
-abbrev pub firstLine : List ℕ → List ℕ
-firstLine [] = []
-firstLine (b ∷ s) = cond (eqb b lf) [] (b ∷ firstLine s)
+-- Room for an order of the most bytes, a CR, and one byte more: what is longer need not be held to be refused.
+abbrev pub roomBytes : ℕ
+roomBytes = maxBytes + 2
 
-abbrev pub ends : List ℕ → Bool
-ends [] = false
-ends (b ∷ s) = eqb b lf || ends s
+-- what a part adds to the bytes that are held: the first of the order that has not ended, as many as there is room for
+abbrev pub heldAfter : List ℕ → List ℕ → List ℕ
+heldAfter held part = take roomBytes (behind held part)
 
--- how many bytes that is, with the LF
-abbrev pub passed : List ℕ → ℕ
-passed s = length (firstLine s) + cond (ends s) 1 0
-
--- what is held: the first bytes of an order, as many as there is room for
-abbrev pub held : List ℕ → ℕ → List ℕ → List ℕ
-held room n more = take (length room) (take n room ++ more)
-
--- the whole room then
+-- the room itself, byte by byte: an LF lets go of what is held; another byte is stored behind it, if there is room
 abbrev pub roomAfter : List ℕ → ℕ → List ℕ → List ℕ
-roomAfter room n more = held room n more ++ drop (length (held room n more)) room
+roomAfter room n [] = room
+roomAfter room n (b ∷ part) =
+    cond (eqb b lf) (roomAfter room 0 part) (roomAfter (set room n b) (min (n + 1) roomBytes) part)
 
--- A part of an input is taken in from a place on, up to an LF. The first n bytes of the room were held.
-pub record TakenIn (part : List ℕ) (at : ℕ) (room after : List ℕ) (n : ℕ) (r : Taken) : Type 0 where
-  pub ended : r .ended ≡ ends (drop at part)
-  pub next : r .next ≡ at + passed (drop at part)
-  pub count : r .n ≡ length (held room n (firstLine (drop at part)))
-  pub bytes : after ≡ roomAfter room n (firstLine (drop at part))
+-- A part is answered: a line for each order that ends in it, from a place on. The first n bytes of the room were held.
+pub record Answered (part room : List ℕ) (n : ℕ) (room′ out : List ℕ) (at : ℕ) (out′ : List ℕ) (r : Standing) : Type 0
+  where
+    pub text : WroteAt at (lines (map asked (ended (take n room) part))) out out′ (r .used)
+    pub count : r .n ≡ length (heldAfter (take n room) part)
+    pub held : take (r .n) room′ ≡ heldAfter (take n room) part
+    pub bytes : room′ ≡ roomAfter room (min n roomBytes) part
+
+-- The end of the input is answered: a line for the order that it ends, if there is one.
+abbrev pub EndAnswered : List ℕ → List ℕ → List ℕ → ℕ → Type 0
+EndAnswered held out out′ used = WroteAt 0 (lines (map asked (last held))) out out′ used
+
+-- what is written for parts, one after the other, and the end of the input behind them, after bytes that are held
+abbrev pub output : List ℕ → List (List ℕ) → List ℕ
+output held [] = lines (map asked (last held))
+output held (part ∷ parts) = lines (map asked (ended held part)) ++ output (heldAfter held part) parts

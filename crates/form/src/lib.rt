@@ -1,66 +1,121 @@
-// Orders out of an input that comes in parts, and answers as lines of text.
+// Orders out of an input that comes in parts, and their answers as lines of text.
 mod line;
 
-use line::answer_line;
+use line::put_answer;
 use text::LF;
 ghost use mathlib.Core.Path.{_≡_};
-ghost use Prim.Native.Nat.{_+_, _≤_, min};
+ghost use mathlib.Core.List.{_∷_, []};
+ghost use Prim.Native.Nat.{_+_, _*_, _≤_, min};
 ghost use lib.ListN.{length, take, set};
 ghost use Rattle.io.specs.Counts.{Counts};
-ghost use Rattle.form.specs.Input.{orderBefore};
-ghost use Rattle.form.specs.Output.{AnswerWritten};
-ghost use Rattle.form.specs.Parts.{TakenIn};
+ghost use Rattle.text.specs.Text.{WroteAt};
+ghost use Rattle.order.specs.Orders.{asked};
+ghost use Rattle.form.specs.Input.{withoutCr};
+ghost use Rattle.form.specs.Output.{line, lineBytes};
+ghost use Rattle.form.specs.Parts.{roomBytes, Answered, EndAnswered};
 
 const CR: u8 = 13;
 
-pub struct Taken {
-    pub next: usize,
+// The most bytes of a part.
+pub const PART: usize = 4096;
+
+// Room for an order with a CR, and one byte more: what is longer need not be held to be refused.
+pub const ROOM: usize = order::MAX_BYTES + 2;
+
+// Room for the answers to a part: an order has a byte in it at least, its LF.
+pub const OUT: usize = PART * line::MOST;
+
+// How many bytes are held of the order that has not ended, and how many were written.
+pub struct Standing {
     pub n: usize,
-    pub ended: bool,
+    pub used: usize,
 }
 
-// Takes in the bytes of a part from `at` on, up to an LF, after the n bytes that are held of the order.
-pub fn take_in(part: &[u8], at: usize, room: &mut [u8], n: usize) -> Taken
-    ensures { λ r. ⌜ TakenIn (now (part .entry)) at (now (room .entry)) (now (room .exit)) n r ⌝ }
+// Answers the orders that end in the first k bytes of a part. The first n bytes of the room are held of the first one.
+pub fn answer_part(
+    part: &[u8; PART],
+    k: usize,
+    room: &mut [u8; ROOM],
+    n: usize,
+    out: &mut [u8; OUT],
+) -> Standing
+    ensures { λ r. ⌜ Counts (r .used) (now (out .exit)) ⌝ }
+    ensures { λ r. ⌜ Answered (take k (now (part .entry))) (now (room .entry)) n (now (room .exit))
+        (now (out .entry)) 0 (now (out .exit)) r ⌝ }
 {
-    let mut i = at;
-    let mut k = least(n, room.len());
+    let bytes: &[u8] = part;
+    let end = least(k, PART);
+    answer_bytes(&bytes[..end], room, least(n, ROOM), out)
+}
+
+// Answers the order that the end of the input ends, of which the first n bytes of the room are held.
+pub fn answer_end(room: &[u8; ROOM], n: usize, out: &mut [u8; OUT]) -> usize
+    ensures { λ r. ⌜ Counts r (now (out .exit)) ⌝ }
+    ensures { λ r. ⌜ EndAnswered (take n (now (room .entry))) (now (out .entry)) (now (out .exit)) r ⌝ }
+{
+    let held = least(n, ROOM);
+    if held == 0 {
+        return 0;
+    }
+    answer(room, held, out, 0)
+}
+
+// The same for a part of any length, with room for what is held and for the answers.
+fn answer_bytes(part: &[u8], room: &mut [u8], n: usize, out: &mut [u8]) -> Standing
+    requires { ⌜ (length (now room) ≡ roomBytes) × (n ≤ roomBytes) ⌝ }
+    requires { ⌜ length (now part) * lineBytes ≤ length (now out) ⌝ }
+    ensures { λ r. ⌜ Answered (now (part .entry)) (now (room .entry)) n (now (room .exit))
+        (now (out .entry)) 0 (now (out .exit)) r ⌝ }
+    ensures { λ r. ⌜ r .used ≤ length (now (out .entry)) ⌝ }
+{
+    let mut held = n;
+    let mut used = 0;
+    let mut i = 0;
     while i < part.len() {
-        let b = part[i];
-        if b == LF {
-            return Taken {
-                next: i + 1,
-                n: k,
-                ended: true,
-            };
-        }
-        k = put(room, k, b);
+        let s = take_byte(part[i], room, held, out, used);
+        held = s.n;
+        used = s.used;
         i += 1;
     }
-    Taken {
-        next: i,
-        n: k,
-        ended: false,
+    Standing { n: held, used }
+}
+
+// One byte: an LF ends the order, and its answer is written from a place on; another byte is held.
+fn take_byte(b: u8, room: &mut [u8], n: usize, out: &mut [u8], at: usize) -> Standing
+    requires { ⌜ (length (now room) ≡ roomBytes) × (n ≤ roomBytes) ⌝ }
+    requires { ⌜ at + lineBytes ≤ length (now out) ⌝ }
+    ensures { λ r. ⌜ Answered (b ∷ []) (now (room .entry)) n (now (room .exit))
+        (now (out .entry)) at (now (out .exit)) r ⌝ }
+    ensures { λ r. ⌜ r .used ≤ at + lineBytes ⌝ }
+{
+    if b == LF {
+        let k = without_cr(room, n);
+        return Standing {
+            n: 0,
+            used: answer(room, k, out, at),
+        };
+    }
+    Standing {
+        n: put(room, n, b),
+        used: at,
     }
 }
 
-// Writes the line that answers the order of which the first n bytes are held, where an LF ended it or the input did.
-pub fn answer(room: &[u8], n: usize, ended: bool, out: &mut [u8; 64]) -> usize
-    ensures { λ r. ⌜ Counts r (now (out .exit)) ⌝ }
-    ensures { λ r. ⌜ AnswerWritten ended (take n (now (room .entry))) (now (out .entry)) (now (out .exit)) r ⌝ }
+// The answer to the order of the first n bytes, from a place on.
+fn answer(room: &[u8], n: usize, out: &mut [u8], at: usize) -> usize
+    requires { ⌜ n ≤ length (now room) ⌝ }
+    requires { ⌜ at + lineBytes ≤ length (now out) ⌝ }
+    ensures { λ r. ⌜ WroteAt at (line (asked (take n (now (room .entry))))) (now (out .entry)) (now (out .exit)) r ⌝ }
+    ensures { λ r. ⌜ r ≤ at + lineBytes ⌝ }
 {
-    let k = without_cr(room, least(n, room.len()), ended);
-    answer_line(order::ask(&room[..k]), out)
+    put_answer(out, at, order::ask(&room[..n]))
 }
 
 // How many of the first k bytes are the order's.
-fn without_cr(room: &[u8], k: usize, ended: bool) -> usize
+fn without_cr(room: &[u8], k: usize) -> usize
     requires { ⌜ k ≤ length (now room) ⌝ }
-    ensures { λ r. ⌜ (r ≤ k) × (take r (now (room .entry)) ≡ orderBefore ended (take k (now (room .entry)))) ⌝ }
+    ensures { λ r. ⌜ (r ≤ k) × (take r (now (room .entry)) ≡ withoutCr (take k (now (room .entry)))) ⌝ }
 {
-    if !ended {
-        return k;
-    }
     if k == 0 {
         return 0;
     }

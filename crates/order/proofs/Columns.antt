@@ -13,6 +13,7 @@ use Rattle.order.specs.Numbers.{outOfRange}
 use Rattle.order.specs.Orders.{everyOther}
 use Rattle.order.specs.Steps.{inColumn}
 use Rattle.rules.proofs.Tests.{by-test}
+use Rattle.order.proofs.Placed.{getD-any}
 
 length-everyOther : (l : List ℤ) → length (everyOther l) ≡ (length l + 1) / 2
 length-everyOther [] = refl
@@ -26,12 +27,6 @@ getD-everyOther (x ∷ []) (suc i) d = let e : 2 * suc i ≡ suc (suc (2 * i)) =
 getD-everyOther (x ∷ y ∷ l) zero d = refl
 getD-everyOther (x ∷ y ∷ l) (suc i) d =
     let e : 2 * suc i ≡ suc (suc (2 * i)) = omega arith in rw e (getD-everyOther l i d)
-
--- within a list, what stands for a missing element does not matter
-getD-any : (l : List ℤ) (i : ℕ) (d e : ℤ) → i < length l → getD l i d ≡ getD l i e
-getD-any [] i d e h = absurd (omega arith)
-getD-any (x ∷ l) zero d e h = refl
-getD-any (x ∷ l) (suc i) d e h = getD-any l i d e (omega arith)
 
 -- a list that holds f below i holds it below i + 1, once f i is stored there
 pub stored : (f : ℕ → ℤ) (out : List ℤ) (i : ℕ) (v : ℤ) → i < length out → v ≡ f i

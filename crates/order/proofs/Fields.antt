@@ -3,10 +3,10 @@
 use Prim.Native.Nat.{ℕ, suc, _+_, _≤_, _<_}
 use native.Mathlib.Numerals.{add-one}
 use native.Mathlib.Omega.{arith}
-use mathlib.Core.Path.{_≡_, refl, sym, ap, _∙_}
+use mathlib.Core.Path.{_≡_, refl, sym, ap, _∙_, subst}
 use mathlib.Core.List.{List, [], _∷_}
 use lib.Dec.{eqb}
-use lib.ListN.{length, getD, take, drop, length-drop, List·getD-map, List·getD-eq-default}
+use lib.ListN.{length, getD, take, drop, length-drop, length-map, List·getD-map}
 use lib.Seq.{drop-cons, drop-drop, getD-drop}
 use borrow.Author.Tests.{eq-eqb, ne-eqb}
 use Rattle.order.specs.Numbers.{outOfRange, fieldOf}
@@ -42,6 +42,15 @@ first-field (b ∷ t) =
     by-test (eqb b comma) (λ y. rw y)
     (λ n. rw n (first-withFirst b (fields t) ∙ ap (λ (f : List ℕ). b ∷ f) (first-field t)))
 
+some-withFirst : (b : ℕ) (fs : List (List ℕ)) → 0 < length (withFirst b fs)
+some-withFirst b [] = omega arith
+some-withFirst b (f ∷ fs) = omega arith
+
+some-field : (s : List ℕ) → 0 < length (fields s)
+some-field [] = omega arith
+some-field (b ∷ s) =
+    by-test (eqb b comma) (λ y. rw y (omega arith)) (λ n. rw n (some-withFirst b (fields s)))
+
 -- FROM BYTE i ON
 
 module _ (s : List ℕ) (i : ℕ) (there : i < length s) where
@@ -50,27 +59,6 @@ module _ (s : List ℕ) (i : ℕ) (there : i < length s) where
 
   pub no-comma : (getD s i 0 ≡ comma → ⊥) → fieldLength (drop i s) ≡ suc (fieldLength (drop (i + 1) s))
   no-comma e = rw (add-one, drop-cons s i 0, ne-eqb (getD s i 0) comma e)
-
--- HOW MANY
-
-length-withFirst : (b : ℕ) (fs : List (List ℕ)) → 0 < length fs → length (withFirst b fs) ≡ length fs
-length-withFirst b [] h = absurd (omega arith)
-length-withFirst b (f ∷ fs) h = refl
-
-some-field : (s : List ℕ) → 0 < length (fields s)
-some-field [] = omega arith
-some-field (b ∷ s) =
-    by-test (eqb b comma) (λ e. rw e (omega arith))
-    (λ e. rw e (omega (arith, length-withFirst b (fields s) (some-field s), some-field s)))
-
-module _ (s : List ℕ) (i : ℕ) (there : i < length s) where
-  pub one-more : getD s i 0 ≡ comma → length (fields (drop i s)) ≡ suc (length (fields (drop (i + 1) s)))
-  one-more e = rw (add-one, drop-cons s i 0, eq-eqb (getD s i 0) comma e)
-
-  pub no-more : (getD s i 0 ≡ comma → ⊥) → length (fields (drop i s)) ≡ length (fields (drop (i + 1) s))
-  no-more e =
-      rw (add-one, drop-cons s i 0, ne-eqb (getD s i 0) comma e)
-      (length-withFirst (getD s i 0) (fields (drop (suc i) s)) (some-field (drop (suc i) s)))
 
 -- THE VALUE OF A FIELD
 
@@ -81,6 +69,10 @@ pub record At (s : List ℕ) (k a : ℕ) : Type 0 where
 
 pub at-start : (s : List ℕ) → At s 0 0
 at-start s = record { within = omega arith; left = refl }
+
+pub length-values : (s : List ℕ) → length (values s) ≡ length (fields s)
+unfolding values
+length-values s = length-map (fields s) fieldOf
 
 value-at : (s : List ℕ) (j : ℕ) → getD (values s) j outOfRange ≡ fieldOf (getD (fields s) j [])
 unfolding values fieldOf
@@ -114,10 +106,16 @@ module _ (s : List ℕ) (k a : ℕ) (here : At s k a) where
       ∙ first-field rest
       )
 
-  -- none after the last
-  pub value-past : (j : ℕ) → k < j → a + fieldLength rest ≡ length s → getD (values s) j outOfRange ≡ outOfRange
-  unfolding fieldOf
-  value-past j h e =
+  -- it is the last
+  pub last-here : a + fieldLength rest ≡ length s → length (fields s) ≡ k + 1
+  last-here e =
       let one : length (drop k (fields s)) ≡ 1
       = ap length (sym (here .left) ∙ last-field rest (omega (arith, length-drop a s))) in
-      value-at s j ∙ ap fieldOf (List·getD-eq-default (fields s) [] (omega (arith, length-drop k (fields s))))
+      omega (arith, length-drop k (fields s))
+
+  -- there is one
+  pub field-here : k < length (fields s)
+  field-here =
+      let some : 0 < length (drop k (fields s))
+      = subst (λ (fs : List (List ℕ)). 0 < length fs) (here .left) (some-field rest) in
+      omega (arith, length-drop k (fields s))

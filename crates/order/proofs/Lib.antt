@@ -2,5 +2,6 @@
 pub mod Cases
 pub mod Digits
 pub mod Fields
+pub mod Placed
 pub mod Columns
 pub mod Asked

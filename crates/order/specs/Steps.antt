@@ -7,7 +7,8 @@ use mathlib.Core.List.{List, [], _∷_}
 use mathlib.Core.Option.{Option, some, none}
 use lib.Dec.{eqb, ltb, leb}
 use lib.IntN.{ℤ, pos, negsuc}
-use lib.ListN.{getD}
+use lib.ListN.{length, getD}
+use Rattle.rules.specs.Limits.{maxLines}
 use Rattle.order.specs.Numbers.{outOfRange}
 use Rattle.order.specs.Orders.{comma}
 
@@ -32,9 +33,17 @@ abbrev pub fieldLength : List ℕ → ℕ
 fieldLength [] = 0
 fieldLength (b ∷ s) = cond (eqb b comma) 0 (suc (fieldLength s))
 
--- the places of a column hold every other field from one on, and -1 past the last field
+-- the places hold the values of the fields, and what they held where there is no field
+abbrev pub Placed : List ℤ → List ℤ → List ℤ → Type 0
+Placed vs before after = (j : ℕ) → j < length before → getD after j (pos 0) ≡ getD vs j (getD before j (pos 0))
+
+-- the first four, and N and L of each line
+abbrev pub maxFields : ℕ
+maxFields = 4 + 2 * maxLines
+
+-- a column holds every other place from one on
 abbrev pub Column : List ℤ → ℕ → List ℤ → Type 0
-Column fs from column = (i : ℕ) → i < 16 → getD column i (pos 0) ≡ getD fs (from + 2 * i) outOfRange
+Column v from column = (i : ℕ) → i < maxLines → getD column i (pos 0) ≡ getD v (from + 2 * i) (pos 0)
 
 -- how many fields of n stand in the column that starts at a field
 abbrev pub inColumn : ℕ → ℕ → ℕ

@@ -3,20 +3,22 @@ mod number;
 
 use number::field_value;
 use quote::Answer;
+use quote::MAX_LINES;
 ghost use mathlib.Core.Path.{_≡_};
 ghost use Prim.Native.Nat.{_+_, _≤_};
-ghost use lib.ListN.{length, getD, drop};
+ghost use lib.ListN.{length, drop, set};
+ghost use Rattle.rules.specs.Limits.{maxLines};
 ghost use Rattle.quote.specs.Told.{told};
-ghost use Rattle.order.specs.Numbers.{outOfRange};
-ghost use Rattle.order.specs.Orders.{asked, fields, values};
-ghost use Rattle.order.specs.Steps.{fieldLength, inColumn, Column};
+ghost use Rattle.order.specs.Orders.{maxBytes, asked, fields, values};
+ghost use Rattle.order.specs.Steps.{fieldLength, maxFields, Placed, inColumn, Column};
 
 const COMMA: u8 = 44;
 
-const MAX_BYTES: usize = 1023;
+// The most bytes of an order.
+pub const MAX_BYTES: usize = 1023;
 
-// The first four, and N and L of sixteen lines.
-const MAX_FIELDS: usize = 36;
+// The first four, and N and L of each line.
+const MAX_FIELDS: usize = 4 + 2 * MAX_LINES;
 
 // The quote that a line of text asks for: `e,p,m,K,N1,L1,N2,L2,..`, without its line end.
 pub fn ask(s: &[u8]) -> Answer
@@ -25,77 +27,63 @@ pub fn ask(s: &[u8]) -> Answer
     if MAX_BYTES < s.len() {
         return Answer::BadLines;
     }
-    let n = count(s);
+    let mut v = [-1i64; MAX_FIELDS];
+    let n = read_fields(s, &mut v);
     if MAX_FIELDS < n {
         return Answer::BadLines;
     }
-    let calls = column(s, 4);
-    let caps = column(s, 5);
+    let calls = column(&v, 4);
+    let caps = column(&v, 5);
     let a = in_column(n, 4);
     let b = in_column(n, 5);
-    quote::budget(
-        field(s, 0),
-        field(s, 1),
-        field(s, 2),
-        field(s, 3),
-        &calls[..a],
-        &caps[..b],
-    )
+    quote::budget(v[0], v[1], v[2], v[3], &calls[..a], &caps[..b])
 }
 
-// How many fields there are.
-fn count(s: &[u8]) -> usize
+// Reads the fields one by one, each to its place while there are places, and tells how many there are.
+fn read_fields(s: &[u8], v: &mut [i64]) -> usize
+    requires { ⌜ length (now s) ≤ maxBytes ⌝ }
     ensures { λ r. ⌜ r ≡ length (fields (now (s .entry))) ⌝ }
+    ensures { λ _. ⌜ Placed (values (now (s .entry))) (now (v .entry)) (now (v .exit)) ⌝ }
 {
-    let mut n = 1;
-    let mut i = 0;
-    while i < s.len() {
-        if s[i] == COMMA {
-            n += 1;
-        }
-        i += 1;
+    let mut n = 0;
+    let mut a = 0;
+    while a <= s.len() {
+        let e = end(s, a);
+        place(v, n, field_value(&s[a..e]));
+        n += 1;
+        a = e + 1;
     }
     n
 }
 
+fn place(v: &mut [i64], n: usize, x: i64)
+    ensures { λ _. ⌜ now (v .exit) ≡ set (now (v .entry)) n x ⌝ }
+{
+    if n < v.len() {
+        v[n] = x;
+    }
+}
+
 fn in_column(n: usize, from: usize) -> usize
-    requires { ⌜ n ≤ 36 ⌝ }
+    requires { ⌜ n ≤ maxFields ⌝ }
     ensures { λ r. ⌜ r ≡ inColumn n from ⌝ }
 {
     if n < from { 0 } else { (n - from + 1) / 2 }
 }
 
-// Sixteen fields from one on, every other; -1 past the last field.
-fn column(s: &[u8], from: usize) -> [i64; 16]
+// The fields of a column: every other place from one on.
+fn column(v: &[i64; MAX_FIELDS], from: usize) -> [i64; MAX_LINES]
     requires { ⌜ from ≤ 5 ⌝ }
-    ensures { λ r. ⌜ (length r ≡ 16) × Column (values (now (s .entry))) from r ⌝ }
+    ensures { λ r. ⌜ (length r ≡ maxLines) × Column (now (v .entry)) from r ⌝ }
 {
-    let mut out = [0i64; 16];
+    let mut out = [0i64; MAX_LINES];
     let mut i = 0;
-    while i < 16 {
-        let x = field(s, from + 2 * i);
+    while i < MAX_LINES {
+        let x = v[from + 2 * i];
         out[i] = x;
         i += 1;
     }
     out
-}
-
-// The number in field j; -1 if there is none.
-fn field(s: &[u8], j: usize) -> i64
-    ensures { λ r. ⌜ r ≡ getD (values (now (s .entry))) j outOfRange ⌝ }
-{
-    let mut a = 0;
-    let mut k = 0;
-    while k < j {
-        let e = end(s, a);
-        if e == s.len() {
-            return -1;
-        }
-        a = e + 1;
-        k += 1;
-    }
-    let e = end(s, a);
-    field_value(&s[a..e])
 }
 
 // Where the field ends that starts at a.

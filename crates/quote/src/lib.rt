@@ -42,7 +42,7 @@ const MAX_SIZE: u64 = 8;
 
 const MAX_CLUSTERS: u64 = 8;
 
-const MAX_LINES: usize = 16;
+pub const MAX_LINES: usize = 16;
 
 const MAX_CALLS: u64 = 1000;
 

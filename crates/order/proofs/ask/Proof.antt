@@ -1,29 +1,38 @@
 -- `order::ask` meets its contract: the fields and columns that it reads are those of the order.
 -- Assumes nothing.
 use borrow.Author.Needs.{needs}
-use Prim.Native.Nat.{ℕ, _≤_}
+use Prim.Native.Nat.{ℕ, _+_, _*_, _≤_, _<_}
 use native.Mathlib.Omega.{arith}
 use mathlib.Core.Path.{_≡_, sym, ap, _∙_}
 use mathlib.Core.List.{List}
-use lib.ListN.{length, take, drop}
+use lib.IntN.{ℤ, pos}
+use lib.ListN.{length, getD, take, drop}
 use lib.Seq.{length-take-le}
-use mir.Facts.{toZ-ofZ}
+use Rattle.rules.specs.Limits.{maxLines}
+use Rattle.quote.proofs.Ranges.{read-back}
+use Rattle.order.specs.Numbers.{outOfRange}
 use Rattle.order.specs.Orders.{values, everyOther}
-use Rattle.order.specs.Steps.{inColumn}
+use Rattle.order.specs.Steps.{maxFields, inColumn, Column}
+use Rattle.order.proofs.Fields.{length-values}
+use Rattle.order.proofs.Placed.{placed-at}
 use Rattle.order.proofs.Columns.{column-is}
-use Rattle.order.proofs.Asked.{length-values, too-long, not-long, many-fields, same-order}
+use Rattle.order.proofs.Asked.{too-long, not-long, many-fields, same-order}
 use Rattle.order.proofs.ask.Statement.{statement}
 use Rattle.order.proofs.ask.Tie as tie
 
 returns : tie.Need-returns
 returns c = sym (too-long (c .before .before .args .s .now) (c .if1 .taken))
 
-count-requires : tie.Need-count-requires
-count-requires c κs = search needs
+slice-aggregate-read-fields : tie.Need-slice-aggregate-read-fields
+slice-aggregate-read-fields c = search needs
+
+read-fields-requires : tie.Need-read-fields-requires
+read-fields-requires c κs = search needs
 
 returns-2 : tie.Need-returns-2
-returns-2 c = let s = c .before .before .before .before .args .s .now in
-    sym (many-fields s (c .before .before .if1 .left) (omega (arith, c .before .count .ensures, c .if2 .taken)))
+returns-2 c = let f = c .before .before in
+    let s = f .before .before .before .before .args .s .now in
+    sym (many-fields s (f .before .before .if1 .left) (omega (arith, f .read-fields .ensures .0, c .if2 .taken)))
 
 column-requires : tie.Need-column-requires
 column-requires c κs = search needs
@@ -37,100 +46,115 @@ in-column-requires c κs = search needs
 in-column-requires-2 : tie.Need-in-column-requires-2
 in-column-requires-2 c κs = search needs
 
--- the text, and the number of its fields
-abbrev text : tie.After-in-column → List ℕ
-text c = c .before .before .before .before .before .before .before .args .s .now
+-- the text and the values of its fields, how many there are, and which
+abbrev text : tie.After-read-fields → List ℕ
+text f = f .before .before .before .before .args .s .now
 
-counted : (c : tie.After-in-column) → c .before .before .before .before .count .result ≡ length (values (text c))
-counted c = c .before .before .before .before .count .ensures ∙ sym (length-values (text c))
+abbrev fs : tie.After-read-fields → List ℤ
+fs f = values (text f)
 
-few : (c : tie.After-in-column) → length (values (text c)) ≤ 36
-few c = omega (arith, counted c, c .before .before .before .if2 .left)
+counted : (f : tie.After-read-fields) → f .read-fields .result ≡ length (fs f)
+counted f = f .read-fields .ensures .0 ∙ sym (length-values (text f))
 
--- how many there are of N and of L, and which
-calls-count : (c : tie.After-in-column) → c .in-column .result ≡ inColumn (length (values (text c))) 4
-calls-count c = c .in-column .ensures ∙ ap (λ (n : ℕ). inColumn n 4) (counted c)
+at : (f : tie.After-read-fields) (j : ℕ) → j < maxFields
+    → getD (f .read-fields .last .1 .0) j (pos 0) ≡ getD (fs f) j outOfRange
+at f j h = placed-at (fs f) (f .read-fields .last .1 .0) maxFields (f .read-fields .ensures .1) j h
 
-caps-count : (c : tie.After-in-column2) → c .in-column2 .result ≡ inColumn (length (values (text (c .before)))) 5
-caps-count c = c .in-column2 .ensures ∙ ap (λ (n : ℕ). inColumn n 5) (counted (c .before))
+-- the first places of a column are there, and they are the column of the order
+abbrev Read : ℕ → ℕ → List ℤ → List ℤ → Type 0
+Read from k column vs = (k ≤ length column) × (take k column ≡ everyOther (drop from vs))
 
-calls-there : (c : tie.After-in-column) → c .in-column .result ≤ length (c .before .before .column .result)
-calls-there c = omega (arith, calls-count c, few c, c .before .before .column .ensures .0)
+column-read : (f : tie.After-read-fields) → f .read-fields .result ≤ maxFields → (from : ℕ) → (4 ≤ from) × (from ≤ 5)
+    → (k : ℕ) → k ≡ inColumn (f .read-fields .result) from → (out : List ℤ)
+    → (length out ≡ maxLines) × Column (f .read-fields .last .1 .0) from out → Read from k out (fs f)
+column-read f few from low k count out column =
+    let n = count ∙ ap (λ (n : ℕ). inColumn n from) (counted f) in
+    let there : k ≤ length out = omega (arith, counted f) in (
+      there,
+      ap (λ (n : ℕ). take n out) n
+          ∙ column-is (fs f) from out (omega arith)
+          (λ i h. column .1 i (omega arith) ∙ at f (from + 2 * i) (omega arith)),
+    )
 
-caps-there : (c : tie.After-in-column2) → c .in-column2 .result ≤ length (c .before .before .column2 .result)
-caps-there c = omega (arith, caps-count c, few (c .before), c .before .before .column2 .ensures .0)
+-- those of N, and those of L, where the fields are read and are not too many
+abbrev fields-read : tie.After-in-column2 → tie.After-read-fields
+fields-read k = k .before .before .before .before .before .before .before .before
 
-calls-read : (c : tie.After-in-column) → let column = c .before .before .column in
-    take (c .in-column .result) (column .result) ≡ everyOther (drop 4 (values (text c)))
-calls-read c = let column = c .before .before .column in
-    ap (λ (k : ℕ). take k (column .result)) (calls-count c)
-    ∙ column-is (values (text c)) 4 (column .result) (omega (arith, calls-count c, calls-there c))
-    (λ i h. column .ensures .1 i (omega (arith, column .ensures .0)))
+few : (k : tie.After-in-column2) → fields-read k .read-fields .result ≤ maxFields
+few k = k .before .before .before .before .before .before .if2 .left
 
-caps-read : (c : tie.After-in-column2) → let column = c .before .before .column2 in
-    take (c .in-column2 .result) (column .result) ≡ everyOther (drop 5 (values (text (c .before))))
-caps-read c = let column = c .before .before .column2 in
-    ap (λ (k : ℕ). take k (column .result)) (caps-count c)
-    ∙ column-is (values (text (c .before))) 5 (column .result) (omega (arith, caps-count c, caps-there c))
-    (λ i h. column .ensures .1 i (omega (arith, column .ensures .0)))
+calls : (k : tie.After-in-column2)
+    → Read 4 (k .before .in-column .result) (k .before .before .before .before .column .result) (fs (fields-read k))
+calls k = let column = k .before .before .before .before .column in
+    column-read (fields-read k) (few k) 4 (omega arith)
+    (k .before .in-column .result) (k .before .in-column .ensures) (column .result) (column .ensures)
 
-field-requires : tie.Need-field-requires
-field-requires c κs = search needs
+caps : (k : tie.After-in-column2)
+    → Read 5 (k .in-column2 .result) (k .before .before .column2 .result) (fs (fields-read k))
+caps k = let column = k .before .before .column2 in
+    column-read (fields-read k) (few k) 5 (omega arith)
+    (k .in-column2 .result) (k .in-column2 .ensures) (column .result) (column .ensures)
 
-field-requires-2 : tie.Need-field-requires-2
-field-requires-2 c κs = search needs
+array-copy-out-budget : tie.Need-array-copy-out-budget
+array-copy-out-budget c = search needs
 
-field-requires-3 : tie.Need-field-requires-3
-field-requires-3 c κs = search needs
+array-copy-out-budget-2 : tie.Need-array-copy-out-budget-2
+array-copy-out-budget-2 c = search needs
 
-field-requires-4 : tie.Need-field-requires-4
-field-requires-4 c κs = search needs
+array-copy-out-budget-3 : tie.Need-array-copy-out-budget-3
+array-copy-out-budget-3 c = search needs
+
+array-copy-out-budget-4 : tie.Need-array-copy-out-budget-4
+array-copy-out-budget-4 c = search needs
 
 array-share-prefix-calls : tie.Need-array-share-prefix-calls
-array-share-prefix-calls c = search needs
+array-share-prefix-calls c = calls (c .before .before .before .before) .0
 
 slice-aggregate-budget : tie.Need-slice-aggregate-budget
-slice-aggregate-budget c = let k = c .before .before .before .before .before .before in
-    sym (length-take-le (k .in-column .result) (k .before .before .column .result) (calls-there k))
+slice-aggregate-budget c = let k = c .before .before .before .before .before in
+    sym (length-take-le (k .before .in-column .result) (k .before .before .before .before .column .result) (calls k .0))
 
 array-share-prefix-caps : tie.Need-array-share-prefix-caps
-array-share-prefix-caps c = search needs
+array-share-prefix-caps c = caps (c .before .before .before .before .before) .0
 
 slice-aggregate-budget-2 : tie.Need-slice-aggregate-budget-2
 slice-aggregate-budget-2 c = let k = c .before .before .before .before .before .before in
-    sym (length-take-le (k .in-column2 .result) (k .before .before .column2 .result) (caps-there k))
+    sym (length-take-le (k .in-column2 .result) (k .before .before .column2 .result) (caps k .0))
 
 budget-requires : tie.Need-budget-requires
 budget-requires c κs = search needs
 
 returns-3 : tie.Need-returns-3
-returns-3 c = let f = c .before .before .before in
-    let k = f .before .before .before .before in
+returns-3 c = let p = c .before .before .before in
+    let k = p .before .before .before .before in
+    let f = fields-read k in
+    let v : ℕ → ℤ = λ j. getD (f .read-fields .last .1 .0) j (pos 0) in
     c .budget .ensures
-    ∙ same-order (values (text (k .before)))
-    (toZ-ofZ (record { sfits = f .before .before .before .field .ok }) ∙ f .before .before .before .field .ensures)
-    (toZ-ofZ (record { sfits = f .before .before .field2 .ok }) ∙ f .before .before .field2 .ensures)
-    (toZ-ofZ (record { sfits = f .before .field3 .ok }) ∙ f .before .field3 .ensures)
-    (toZ-ofZ (record { sfits = f .field4 .ok }) ∙ f .field4 .ensures)
-    (calls-read (k .before))
-    (caps-read k)
-    ∙ sym (not-long (text (k .before)) (k .before .before .before .before .before .before .if1 .left))
+    ∙ same-order (fs f)
+    (read-back (v 0) (p .before .before .before .budget-arg .given) ∙ at f 0 (omega arith))
+    (read-back (v 1) (p .before .before .budget-arg2 .given) ∙ at f 1 (omega arith))
+    (read-back (v 2) (p .before .budget-arg3 .given) ∙ at f 2 (omega arith))
+    (read-back (v 3) (p .budget-arg4 .given) ∙ at f 3 (omega arith))
+    (calls k .1)
+    (caps k .1)
+    ∙ sym (not-long (text f) (f .before .before .if1 .left))
 
 pub ask-spec : {M : Type 1} → statement M
 ask-spec =
     tie.close
     (tie.spec
     returns
-    count-requires
+    slice-aggregate-read-fields
+    read-fields-requires
     returns-2
     column-requires
     column-requires-2
     in-column-requires
     in-column-requires-2
-    field-requires
-    field-requires-2
-    field-requires-3
-    field-requires-4
+    array-copy-out-budget
+    array-copy-out-budget-2
+    array-copy-out-budget-3
+    array-copy-out-budget-4
     array-share-prefix-calls
     slice-aggregate-budget
     array-share-prefix-caps

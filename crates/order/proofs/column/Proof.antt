@@ -2,37 +2,38 @@
 -- Assumes nothing.
 use Prim.Native.Nat.{ℕ, _+_, _-_, _*_, _≤_, _<_}
 use native.Mathlib.Omega.{arith}
-use mathlib.Core.Path.{_≡_, refl, _∙_}
+use mathlib.Core.Path.{_≡_, refl}
 use lib.IntN.{ℤ, pos}
 use lib.ListN.{length, getD, length-set}
-use mir.Facts.{toZ-ofZ}
-use Rattle.order.specs.Numbers.{outOfRange}
-use Rattle.order.specs.Orders.{values}
-use Rattle.quote.proofs.Ranges.{read}
+use Rattle.rules.specs.Limits.{maxLines}
+use Rattle.quote.proofs.Ranges.{read, read-back}
 use Rattle.order.proofs.Columns.{stored}
 use Rattle.order.proofs.column.Statement.{statement}
 use Rattle.order.proofs.column.Tie as tie
 
 abbrev Inv-loop : tie.InvT-loop
-Inv-loop s from out₀ i₀ out i =
-    (i ≤ 16)
-    × (length out ≡ 16)
-    × ((q : ℕ) → q < i → getD out q (pos 0) ≡ getD (values s) (from + 2 * q) outOfRange)
+Inv-loop v from out₀ i₀ out i =
+    (i ≤ maxLines)
+    × (length out ≡ maxLines)
+    × ((q : ℕ) → q < i → getD out q (pos 0) ≡ getD v (from + 2 * q) (pos 0))
 
 abbrev μ-loop : tie.MeasureT-loop
-μ-loop s from out₀ i₀ out i = 16 - i
+μ-loop v from out₀ i₀ out i = maxLines - i
 
 loop-holds : tie.Need-loop-holds Inv-loop μ-loop
 loop-holds c = (omega arith, refl, λ q h. absurd (omega arith))
 
-mul-field : tie.Need-mul-field Inv-loop μ-loop
-mul-field c = omega arith
+mul-x : tie.Need-mul-x Inv-loop μ-loop
+mul-x c = omega arith
 
-add-field : tie.Need-add-field Inv-loop μ-loop
-add-field c = omega arith
+add-x : tie.Need-add-x Inv-loop μ-loop
+add-x c = omega arith
 
-field-requires : tie.Need-field-requires Inv-loop μ-loop
-field-requires c κs = tt
+mul-x-2 : tie.Need-mul-x-2 Inv-loop μ-loop
+mul-x-2 c = omega arith
+
+element-copy-out-x : tie.Need-element-copy-out-x Inv-loop μ-loop
+element-copy-out-x c = omega arith
 
 mul-out : tie.Need-mul-out Inv-loop μ-loop
 mul-out c = omega arith
@@ -48,13 +49,12 @@ loop-less c = omega arith
 
 loop-again : tie.Need-loop-again Inv-loop μ-loop
 loop-again c = let l = c .before .before in
-    let a = l .before .before .args in
-    let f : ℕ → ℤ = λ q. getD (values (a .s .now)) (a .from + 2 * q) outOfRange in
-    let v : read (c .field .result) ≡ f (l .loop .i)
-    = toZ-ofZ (record { sfits = c .field .ok }) ∙ c .field .ensures in (
+    let a = l .before .args in
+    let f : ℕ → ℤ = λ q. getD (a .v .now) (a .from + 2 * q) (pos 0) in
+    let x = f (l .loop .i) in (
       omega arith,
       simp length-set (l .loop .inv .1),
-      stored f (l .loop .out) (l .loop .i) (read (c .field .result)) (omega arith) v (l .loop .inv .2),
+      stored f (l .loop .out) (l .loop .i) (read x) (omega arith) (read-back x (c .x .given)) (l .loop .inv .2),
     )
 
 returns : tie.Need-returns Inv-loop μ-loop
@@ -68,9 +68,10 @@ column-spec =
     Inv-loop
     μ-loop
     loop-holds
-    mul-field
-    add-field
-    field-requires
+    mul-x
+    add-x
+    mul-x-2
+    element-copy-out-x
     mul-out
     array-set-from-out
     add-i
