@@ -8,8 +8,7 @@ use lib.IntN.{ℤ}
 use lib.ListN.{length, getD, drop}
 use borrow.Author.Tests.{lt-ltb, le-ltb}
 use Rattle.rules.specs.Refusals.{badLines}
-use Rattle.rules.specs.Quote.{refusedQuote, quote}
-use Rattle.quote.specs.Told.{orderOf}
+use Rattle.rules.specs.Quote.{orderOf, refusedQuote, quote}
 use Rattle.quote.proofs.Answers.{many-lines}
 use Rattle.order.specs.Numbers.{outOfRange}
 use Rattle.order.specs.Orders.{fields, values, everyOther, orderFrom, maxBytes, asked}

@@ -3,5 +3,4 @@ pub mod Ranges
 pub mod Lines
 pub mod Most
 pub mod Answers
-pub mod Cases
 pub mod Only

@@ -8,9 +8,9 @@ ghost use lib.ListN.{length};
 ghost use lib.Signed.{nonNeg};
 ghost use Rattle.rules.specs.Demands.{worst};
 ghost use Rattle.rules.specs.Limits.{maxLines, maxSize, maxClusters, maxCalls, maxCap};
-ghost use Rattle.rules.specs.Quote.{quote, inRange, linesFit, firstFalse, burnt};
+ghost use Rattle.rules.specs.Quote.{orderOf, quote, inRange, linesFit, firstFalse, burnt};
 ghost use Rattle.quote.specs.Steps.{fieldsOut, AllFit, mostOfLine};
-ghost use Rattle.quote.specs.Told.{told, numbersOf, orderOf};
+ghost use Rattle.quote.specs.Told.{told, numbersOf};
 
 pub enum Answer {
     Accepted(u64),

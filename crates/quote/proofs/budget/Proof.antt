@@ -6,8 +6,7 @@ use native.Mathlib.Omega.{arith}
 use mathlib.Core.Path.{_≡_, sym, ap, _∙_}
 use lib.IntN.{natAbs}
 use lib.ListN.{length}
-use Rattle.rules.specs.Quote.{Order, burnt, budgetOf}
-use Rattle.quote.specs.Told.{orderOf}
+use Rattle.rules.specs.Quote.{Order, orderOf, burnt, budgetOf}
 use Rattle.quote.specs.Steps.{fieldsOut}
 use Rattle.quote.proofs.Ranges.{read-back}
 use Rattle.quote.proofs.Answers.{AllIn, all-in, many-lines, uneven, field-out, over-period, in-period}
