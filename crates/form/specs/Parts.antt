@@ -5,9 +5,10 @@ use mathlib.Core.Path.{_≡_}
 use mathlib.Core.Bool.{cond}
 use mathlib.Core.List.{List, [], _∷_, _++_, map}
 use lib.Dec.{eqb}
-use lib.ListN.{length, take, set}
+use lib.ListN.{length, take, set, replicate}
 use Rattle.text.specs.Text.{lf, WroteAt}
 use Rattle.order.specs.Orders.{maxBytes, asked}
+use Rattle.form.specs.declared.Held.{Held}
 use Rattle.form.specs.declared.Standing.{Standing}
 use Rattle.form.specs.Input.{ended, behind, last}
 use Rattle.form.specs.Output.{lines}
@@ -25,6 +26,14 @@ abbrev pub roomAfter : List ℕ → ℕ → List ℕ → List ℕ
 roomAfter room n [] = room
 roomAfter room n (b ∷ part) =
     cond (eqb b lf) (roomAfter room 0 part) (roomAfter (set room n b) (min (n + 1) roomBytes) part)
+
+-- nothing is held in a room of zeros, and nothing was written
+abbrev pub noneHeld : Held
+noneHeld = record { room = replicate roomBytes 0; n = 0; used = 0 }
+
+-- how much is held, and how much was written
+abbrev pub standing : Held → Standing
+standing h = record { n = h .n; used = h .used }
 
 -- A part is answered: a line for each order that ends in it, from a place on. The first n bytes of the room were held.
 pub record Answered (part room : List ℕ) (n : ℕ) (room′ out : List ℕ) (at : ℕ) (out′ : List ℕ) (r : Standing) : Type 0

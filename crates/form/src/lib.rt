@@ -12,7 +12,7 @@ ghost use Rattle.text.specs.Text.{WroteAt};
 ghost use Rattle.order.specs.Orders.{asked};
 ghost use Rattle.form.specs.Input.{withoutCr};
 ghost use Rattle.form.specs.Output.{line, lineBytes};
-ghost use Rattle.form.specs.Parts.{roomBytes, Answered, EndAnswered};
+ghost use Rattle.form.specs.Parts.{roomBytes, noneHeld, standing, Answered, EndAnswered};
 
 const CR: u8 = 13;
 
@@ -20,44 +20,64 @@ const CR: u8 = 13;
 pub const PART: usize = 4096;
 
 // Room for an order with a CR, and one byte more: what is longer need not be held to be refused.
-pub const ROOM: usize = order::MAX_BYTES + 2;
+const ROOM: usize = order::MAX_BYTES + 2;
 
 // Room for the answers to a part: an order has a byte in it at least, its LF.
 pub const OUT: usize = PART * line::MOST;
 
-// How many bytes are held of the order that has not ended, and how many were written.
-pub struct Standing {
-    pub n: usize,
+// What is held of the order that has not ended, the first n bytes of a room, and how many bytes were written.
+pub struct Held {
+    room: [u8; ROOM],
+    n: usize,
     pub used: usize,
 }
 
-// Answers the orders that end in the first k bytes of a part. The first n bytes of the room are held of the first one.
-pub fn answer_part(
-    part: &[u8; PART],
-    k: usize,
-    room: &mut [u8; ROOM],
-    n: usize,
-    out: &mut [u8; OUT],
-) -> Standing
-    ensures { λ r. ⌜ Counts (r .used) (now (out .exit)) ⌝ }
-    ensures { λ r. ⌜ Answered (take k (now (part .entry))) (now (room .entry)) n (now (room .exit))
-        (now (out .entry)) 0 (now (out .exit)) r ⌝ }
+// Nothing is held, as before an input.
+pub fn none_held() -> Held
+    ensures { λ r. ⌜ r ≡ noneHeld ⌝ }
 {
-    let bytes: &[u8] = part;
-    let end = least(k, PART);
-    answer_bytes(&bytes[..end], room, least(n, ROOM), out)
+    Held {
+        room: [0; ROOM],
+        n: 0,
+        used: 0,
+    }
 }
 
-// Answers the order that the end of the input ends, of which the first n bytes of the room are held.
-pub fn answer_end(room: &[u8; ROOM], n: usize, out: &mut [u8; OUT]) -> usize
-    ensures { λ r. ⌜ Counts r (now (out .exit)) ⌝ }
-    ensures { λ r. ⌜ EndAnswered (take n (now (room .entry))) (now (out .entry)) (now (out .exit)) r ⌝ }
+// Answers the orders that end in the first k bytes of a part, after what is held of the first one.
+pub fn answer_part(held: Held, part: &[u8; PART], k: usize, out: &mut [u8; OUT]) -> Held
+    ensures { λ r. ⌜ Counts (r .used) (now (out .exit)) ⌝ }
+    ensures { λ r. ⌜ Answered (take k (now (part .entry))) (held .room) (held .n) (r .room)
+        (now (out .entry)) 0 (now (out .exit)) (standing r) ⌝ }
 {
-    let held = least(n, ROOM);
-    if held == 0 {
+    let mut room = held.room;
+    let n = least(held.n, ROOM);
+    let bytes: &[u8] = part;
+    let end = least(k, PART);
+    let s = answer_bytes(&bytes[..end], &mut room, n, out);
+    Held {
+        room,
+        n: s.n,
+        used: s.used,
+    }
+}
+
+// Answers the order that the end of the input ends, of which some bytes are held.
+pub fn answer_end(held: Held, out: &mut [u8; OUT]) -> usize
+    ensures { λ r. ⌜ Counts r (now (out .exit)) ⌝ }
+    ensures { λ r. ⌜ EndAnswered (take (held .n) (held .room)) (now (out .entry)) (now (out .exit)) r ⌝ }
+{
+    let room = held.room;
+    let n = least(held.n, ROOM);
+    if n == 0 {
         return 0;
     }
-    answer(room, held, out, 0)
+    answer(&room, n, out, 0)
+}
+
+// How many bytes are held, and how many were written.
+struct Standing {
+    n: usize,
+    used: usize,
 }
 
 // The same for a part of any length, with room for what is held and for the answers.

@@ -16,29 +16,36 @@ use Rattle.form.proofs.answer_end.Tie as tie
 least-requires : tie.Need-least-requires
 least-requires c κs = search needs
 
+-- the room is whole
+all : (c : tie.After-room) → length (c .before .args .held .room) ≡ roomBytes
+all c = search needs
+
 returns : tie.Need-returns
-returns c = let a = c .before .before .args in
-    let none : a .n ≡ 0 = omega (arith, c .before .least .ensures, c .if1 .taken) in (
+returns c = let a = c .before .before .before .args in
+    let none : a .held .n ≡ 0 = omega (arith, c .before .least .ensures, c .if1 .taken) in (
       omega arith,
       rw none (end-none (a .out .now)),
     )
 
+slice-aggregate-answer : tie.Need-slice-aggregate-answer
+slice-aggregate-answer c = search needs
+
 answer-requires : tie.Need-answer-requires
-answer-requires c κs = search needs
+answer-requires c κs = let l = c .before .before .before in
+    (omega (arith, l .least .ensures, all (l .before)), omega (arith, c .answer-arg .given .0 .1))
 
 returns-2 : tie.Need-returns-2
 returns-2 c = let w = c .answer in
     let l = c .before .before .before .before in
-    let a = l .before .args in
-    let room = a .room .now in
-    let all : length room ≡ roomBytes = omega (arith, c .before .before .answer-arg .given) in
-    let held : take (l .least .result) room ≡ take (a .n) room
-    = ap (λ (k : ℕ). take k room) (l .least .ensures ∙ ap (λ (k : ℕ). min (a .n) k) (sym all))
-    ∙ take-least (a .n) room in
+    let a = l .before .before .args in
+    let room = a .held .room in
+    let held : take (l .least .result) room ≡ take (a .held .n) room
+    = ap (λ (k : ℕ). take k room) (l .least .ensures ∙ ap (λ (k : ℕ). min (a .held .n) k) (sym (all (l .before))))
+    ∙ take-least (a .held .n) room in
     let some : 0 < length (take (l .least .result) room)
     = omega (
       arith,
-      length-take-le (l .least .result) room (omega (arith, l .least .ensures)),
+      length-take-le (l .least .result) room (omega (arith, l .least .ensures, all (l .before))),
       c .before .before .before .if1 .left,
     ) in
     let fits : w .result ≤ length (w .last .1 .1 .0) = omega (arith, w .ensures .1, w .kept) in (
@@ -48,4 +55,5 @@ returns-2 c = let w = c .answer in
     )
 
 pub answer-end-spec : {M : Type 1} → statement M
-answer-end-spec = tie.close (tie.spec least-requires returns answer-requires returns-2)
+answer-end-spec =
+    tie.close (tie.spec least-requires returns slice-aggregate-answer answer-requires returns-2)

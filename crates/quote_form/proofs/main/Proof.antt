@@ -1,17 +1,19 @@
 -- `quote_form::main` is safe and ends. The measure is the number of turns that are left.
 -- Assumes nothing.
 use borrow.Author.Needs.{needs}
-use native.Mathlib.Omega.{arith}
-use mathlib.Core.Path.{_≡_, refl, _∙_}
+use mathlib.Core.Path.{_≡_}
 use lib.ListN.{length}
 use Rattle.quote_form.proofs.main.Statement.{statement}
 use Rattle.quote_form.proofs.main.Tie as tie
 
 abbrev Inv-loop : tie.InvT-loop
-Inv-loop part₀ room₀ out₀ n₀ turns₀ part room out n turns = length part ≡ 4096
+Inv-loop part₀ out₀ held₀ turns₀ part out held turns = length part ≡ 4096
 
 abbrev μ-loop : tie.MeasureT-loop
-μ-loop part₀ room₀ out₀ n₀ turns₀ part room out n turns = turns
+μ-loop part₀ out₀ held₀ turns₀ part out held turns = turns
+
+none-held-requires : tie.Need-none-held-requires Inv-loop μ-loop
+none-held-requires c κs = search needs
 
 loop-holds : tie.Need-loop-holds Inv-loop μ-loop
 loop-holds c = search needs
@@ -85,6 +87,7 @@ main-spec =
     (tie.spec
     Inv-loop
     μ-loop
+    none-held-requires
     loop-holds
     slice-aggregate-read-some
     read-some-requires
