@@ -1,0 +1,2 @@
+-- What is proved of reads.
+pub mod Cases

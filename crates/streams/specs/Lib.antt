@@ -1,0 +1,2 @@
+-- What a read may give. Nothing is proved here.
+pub mod Got
