@@ -1,12 +1,32 @@
-// Reads a log from standard input, replays it, and writes its report to standard output.
+// Replays a log and writes its report to standard output. The log is the file that the argument names, or standard input.
 use libc::STDIN_FILENO;
-use libc::STDOUT_FILENO;
+use log_files::Whole;
 
 fn main() {
-    // One byte more than the largest log: what is longer need not be held to be refused.
+    let words = os::arg_count();
+    if words > 2 {
+        streams::tell(b"usage: replay [LOG]\n");
+        return;
+    }
+    if words < 2 {
+        replay(STDIN_FILENO);
+        return;
+    }
+    let fd = log_files::open_argument(1);
+    if fd >= 0 {
+        replay(fd);
+    }
+}
+
+// Replays the log that a descriptor gives. What can't be read has no report.
+fn replay(fd: i32) {
     let mut log = [0u8; log::MAX_LOG + 1];
-    let n = io::read_full(STDIN_FILENO, &mut log);
-    let mut out = [0u8; replaying::MAX_TEXT];
+    let whole = log_files::read_log(fd, &mut log);
+    let Whole::Bytes(n) = whole else {
+        streams::tell_unread();
+        return;
+    };
+    let mut out = [0u8; report::MAX_TEXT];
     let k = replaying::report(&log[..n], &mut out);
-    io::write_all(STDOUT_FILENO, &out[..k]);
+    streams::write_out(&out[..k]);
 }

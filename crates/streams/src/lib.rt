@@ -1,5 +1,5 @@
-// What the programs read and write. A read that fails is told apart from the end of the input, and what can't be read or
-// written is told in a line on standard error.
+// What the programs read and write. A read that fails is told apart from the end of the input, and what can't be read
+// or written is told in a line on standard error.
 
 use libc::STDERR_FILENO;
 use libc::STDOUT_FILENO;
@@ -51,7 +51,7 @@ pub fn tell_unread() {
     tell(b"cannot read the input\n");
 }
 
-// Writes a line to standard error.
-pub fn tell(line: &[u8]) {
-    io::write_all(STDERR_FILENO, line);
+// Writes to standard error: a line, or a part of one.
+pub fn tell(text: &[u8]) {
+    io::write_all(STDERR_FILENO, text);
 }

@@ -29,8 +29,11 @@ decimalIn (suc k) n =
     cond (ltb n 10) ((firstDigit + n) ∷ []) (decimalIn k (n / 10) ++ ((firstDigit + n % 10) ∷ []))
 
 -- a number below 2^64 has at most 20 digits
+abbrev pub maxDigits : ℕ
+maxDigits = 20
+
 unfoldable pub decimal : ℕ → List ℕ
-decimal n = decimalIn 20 n
+decimal n = decimalIn maxDigits n
 
 -- WRITTEN INTO A BUFFER
 

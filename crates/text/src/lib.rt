@@ -4,7 +4,7 @@ ghost use mathlib.Core.Path.{_≡_};
 ghost use mathlib.Core.List.{_∷_, []};
 ghost use Prim.Native.Nat.{_+_, _≤_, _<_};
 ghost use lib.ListN.{length};
-ghost use Rattle.text.specs.Text.{decimal, WroteAt};
+ghost use Rattle.text.specs.Text.{maxDigits, decimal, WroteAt};
 
 // What ends a line.
 pub const LF: u8 = 10;
@@ -42,9 +42,9 @@ pub fn wide_size(x: usize) -> u64
 
 // The digits of a number from a place on.
 pub fn put_number(out: &mut [u8], at: usize, n: u64) -> usize
-    requires { ⌜ at + 20 ≤ length (now out) ⌝ }
+    requires { ⌜ at + maxDigits ≤ length (now out) ⌝ }
     ensures { λ r. ⌜ WroteAt at (decimal n) (now (out .entry)) (now (out .exit)) r ⌝ }
-    ensures { λ r. ⌜ r ≤ at + 20 ⌝ }
+    ensures { λ r. ⌜ r ≤ at + maxDigits ⌝ }
 {
     let mut digits = [0u8; 20];
     let k = io::decimal(n, &mut digits);

@@ -36,14 +36,17 @@ add-same c = omega arith
 add-p : tie.Need-add-p Inv-loop μ-loop
 add-p c = omega arith
 
+returns : tie.Need-returns Inv-loop μ-loop
+returns c = omega arith
+
 loop-less : tie.Need-loop-less Inv-loop μ-loop
 loop-less c = omega arith
 
 loop-again : tie.Need-loop-again Inv-loop μ-loop
 loop-again c = (omega arith, omega arith)
 
-returns : tie.Need-returns Inv-loop μ-loop
-returns c = omega arith
+returns-2 : tie.Need-returns-2 Inv-loop μ-loop
+returns-2 c = omega arith
 
 pub compare-all-spec : {M : Type 1} → statement M
 compare-all-spec =
@@ -59,6 +62,7 @@ compare-all-spec =
     compare-requires
     add-same
     add-p
+    returns
     loop-less
     loop-again
-    returns)
+    returns-2)

@@ -25,36 +25,59 @@ returns c = search needs
 returns-2 : tie.Need-returns-2
 returns-2 c = search needs
 
-slice-aggregate-read-full : tie.Need-slice-aggregate-read-full
-slice-aggregate-read-full c = search needs
+read-log-requires : tie.Need-read-log-requires
+read-log-requires c κs = search needs
 
-read-full-requires : tie.Need-read-full-requires
-read-full-requires c κs = search needs
+read-report-requires : tie.Need-read-report-requires
+read-report-requires c κs = search needs
 
-slice-aggregate-read-full-2 : tie.Need-slice-aggregate-read-full-2
-slice-aggregate-read-full-2 c = search needs
+enum-known-b : tie.Need-enum-known-b
+enum-known-b c = search needs
 
-read-full-requires-2 : tie.Need-read-full-requires-2
-read-full-requires-2 c κs = search needs
+enum-told : tie.Need-enum-told
+enum-told c = search needs
+
+tell-unread-requires : tie.Need-tell-unread-requires
+tell-unread-requires c κs = search needs
+
+returns-3 : tie.Need-returns-3
+returns-3 c = search needs
+
+enum-known-t : tie.Need-enum-known-t
+enum-known-t c = search needs
+
+enum-told-2 : tie.Need-enum-told-2
+enum-told-2 c = search needs
+
+tell-unread-requires-2 : tie.Need-tell-unread-requires-2
+tell-unread-requires-2 c κs = search needs
+
+returns-4 : tie.Need-returns-4
+returns-4 c = search needs
 
 array-share-prefix-bytes : tie.Need-array-share-prefix-bytes
-array-share-prefix-bytes c = search needs
+array-share-prefix-bytes c =
+    let b = c .before .before .before .before in b .before .before .before .before .read-log .ensures .0 _ (b .b .given .1) .0
 
 slice-aggregate-matches : tie.Need-slice-aggregate-matches
-slice-aggregate-matches c = search needs
+slice-aggregate-matches c =
+    let b = c .before .before .before .before .before in b .before .before .before .before .read-log .ensures .0 _ (b .b .given .1) .1
 
 array-share-prefix-text : tie.Need-array-share-prefix-text
-array-share-prefix-text c = search needs
+array-share-prefix-text c =
+    let t = c .before .before in t .before .before .before .before .before .read-report .ensures .0 _ (t .t .given .1) .0
 
 slice-aggregate-matches-2 : tie.Need-slice-aggregate-matches-2
-slice-aggregate-matches-2 c = search needs
+slice-aggregate-matches-2 c =
+    let t = c .before .before .before in t .before .before .before .before .before .read-report .ensures .0 _ (t .t .given .1) .1
 
 matches-requires : tie.Need-matches-requires
 matches-requires c κs = search needs
 
-returns-3 : tie.Need-returns-3
-returns-3 c =
-    let i = c .before .before .before .before .before .before .before .before .before in
+returns-5 : tie.Need-returns-5
+returns-5 c =
+    let t = c .before .before .before .before in
+    let i = t .before .before .before .before .before .before .before .before .before in
     let s = i .before .before in (
       λ h. absurd (not-negative (s .args .log) (s .fits .log .sfits) (i .before .if1 .left) h),
       λ h. absurd (not-negative (s .args .expected) (s .fits .expected .sfits) (i .if2 .left) h),
@@ -66,13 +89,19 @@ is-report-spec =
     (tie.spec
     returns
     returns-2
-    slice-aggregate-read-full
-    read-full-requires
-    slice-aggregate-read-full-2
-    read-full-requires-2
+    read-log-requires
+    read-report-requires
+    enum-known-b
+    enum-told
+    tell-unread-requires
+    returns-3
+    enum-known-t
+    enum-told-2
+    tell-unread-requires-2
+    returns-4
     array-share-prefix-bytes
     slice-aggregate-matches
     array-share-prefix-text
     slice-aggregate-matches-2
     matches-requires
-    returns-3)
+    returns-5)

@@ -1,0 +1,3 @@
+-- What the proofs of `log_files` share.
+pub mod Standings
+pub mod Cases
