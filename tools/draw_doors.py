@@ -32,7 +32,7 @@ def draw_record(r, g):
     if t < 0.05:
         return r.choice((0, 5, 255, r.randrange(256))), r.choice((0, 1, 65535))
     if t < 0.3:
-        return 1, draw_client(r, g)
+        return 1, g.served if g.server != IDLE and r.random() < 0.1 else draw_client(r, g)
     if t < 0.6:
         left = max(g.L - g.units, 0)
         return 2, r.choice((r.randint(0, left), left, left, left + 1, 0, 1, 65535)) % 65536
@@ -100,7 +100,7 @@ def drawn(r):
 def harmed(r, pool, part):
     """One in which that part of soundness does not hold, and alone if one is found soon."""
     best = None
-    for _ in range(400):
+    for _ in range(1500):
         g = damaged(r, r.choice(pool))
         if not holds(g, part) and (best is None or len(broken(g)) < len(broken(best))):
             best = g
@@ -122,17 +122,18 @@ def changed(r, pool):
 
 def gates(r, count):
     """The empty gate, and one that has no cluster but a cap; then, of five, two that are reached, one that is drawn,
-    one that breaks a part of soundness, each in its turn, and one with any damage."""
+    one that breaks a part of soundness, each in its turn, and one with any damage; last, a size of 9."""
     pool = [draw(r) for _ in range(150) for draw in (reached, drawn)]
     yield fresh(0, 0, 0, [], [])
     yield fresh(0, 0, 1, [], [])
-    for i in range(count - 2):
+    for i in range(count - 3):
         if i % 5 < 3:
             yield (reached, drawn, reached)[i % 5](r)
         elif i % 5 == 3:
             yield harmed(r, pool, SOUND[i // 5 % len(SOUND)])
         else:
             yield changed(r, pool)
+    yield fresh(1, 0, 1, [9], [])
 
 
 def told(g, record):
@@ -143,7 +144,7 @@ def told(g, record):
     return '%d %d%s\n' % (sound(g), answer, changes)
 
 
-def main(seed='1', count='650', stdin='crates/door_cases/stdin', stdout='crates/door_cases/stdout'):
+def main(seed='3', count='651', stdin='crates/door_cases/stdin', stdout='crates/door_cases/stdout'):
     r = random.Random(int(seed))
     with open(stdin, 'wb') as cases, open(stdout, 'w') as lines:
         for g in gates(r, int(count)):

@@ -201,7 +201,8 @@ def idle_units(r, g):
 
 
 def serves_another(r, g):
-    g.server, g.served = r.choice((FRONT, BEST, SPENT)), any_client(r, g)
+    queued = [c for c in range(g.N) if waits(g, c)] or [0]
+    g.server, g.served = r.choice((FRONT, BEST, SPENT)), r.choice((any_client(r, g), r.choice(queued)))
 
 
 def units(r, g):

@@ -89,6 +89,10 @@ def queues(g):
     return g.lines + [g.queue, g.background]
 
 
+def used_first(places):
+    return places[:len(used(places))] == used(places)
+
+
 def lined(g):
     """Each client that stands in the line of a cluster, with that cluster."""
     return [(c, k) for k in range(8) for c in used(g.lines[k])]
@@ -98,10 +102,9 @@ def roomed(g):
     return [(c, k) for k in range(8) for c in room(g, k)]
 
 
-def in_places(g):
-    """Every place that a client has: a line, a room, the background queue, or in service but in no line."""
-    served = [g.served] if g.server in (BEST, SPENT) else []
-    return [c for c, k in lined(g) + roomed(g)] + used(g.background) + served
+def standing(g):
+    """Who stands in a line, a room or the background queue, as often as it does."""
+    return [c for c, k in lined(g) + roomed(g)] + used(g.background)
 
 
 def due_fronts(g):
@@ -118,9 +121,13 @@ SOUND = (
     ('each kind is 0 or 1', lambda g: all(kind in (0, 1) for kind in g.kinds[:g.N])),
     ("each client's cluster is below K", lambda g: all(k < g.K for k in g.homes[:g.N])),
     ('sizes past K are zero', lambda g: not any(g.sizes[g.K:])),
-    ('client rows past N are zero', lambda g: not any(g.kinds[g.N:] + g.homes[g.N:] + g.priorities[g.N:])),
+    ('kinds past N are zero', lambda g: not any(g.kinds[g.N:])),
+    ('clusters past N are zero', lambda g: not any(g.homes[g.N:])),
+    ('priorities past N are zero', lambda g: not any(g.priorities[g.N:])),
     ('charges past N are zero', lambda g: not any(g.charges[g.N:])),
-    ('used places come first', lambda g: all(p[:len(used(p))] == used(p) for p in queues(g))),
+    ('used places of a line come first', lambda g: all(used_first(line) for line in g.lines)),
+    ('used places of the global queue come first', lambda g: used_first(g.queue)),
+    ('used places of the background queue come first', lambda g: used_first(g.background)),
     ('used places hold numbers below N', lambda g: all(c < g.N for p in queues(g) for c in used(p))),
     ('rooms hold only such numbers', lambda g: all(c < g.N for c, k in roomed(g))),
     ('lines past K are empty', lambda g: all(k < g.K for c, k in lined(g))),
@@ -129,11 +136,14 @@ SOUND = (
     ('units served are 0 when idle', lambda g: g.server != IDLE or g.units == 0),
     ('units served are at most L', lambda g: g.units <= g.L),
     ('the client in service is below N', lambda g: g.server == IDLE or g.served < g.N),
-    ('a front in service is the first of its line',
-     lambda g: g.server != FRONT or g.lines[g.homes[g.served]][0] == g.served),
+    ('a front in service is in its line', lambda g: g.server != FRONT or g.served in g.lines[g.homes[g.served]]),
+    ('a front in service is not behind another there',
+     lambda g: g.server != FRONT or g.served not in g.lines[g.homes[g.served]][1:]),
     ('a best-effort client in service is one', lambda g: g.server != BEST or g.kinds[g.served] == 1),
     ('a spent client is real-time', lambda g: g.server != SPENT or g.kinds[g.served] == 0),
-    ('no client is in two places', lambda g: len(in_places(g)) == len(set(in_places(g)))),
+    ('no client stands in two places', lambda g: len(standing(g)) == len(set(standing(g)))),
+    ('a best-effort client in service stands in none', lambda g: g.server != BEST or g.served not in standing(g)),
+    ('a spent client stands in none', lambda g: g.server != SPENT or g.served not in standing(g)),
     ('every client in a line is real-time', lambda g: all(g.kinds[c] == 0 for c, k in lined(g))),
     ('every client in a line is of that cluster', lambda g: all(g.homes[c] == k for c, k in lined(g))),
     ('every client in a room is real-time', lambda g: all(g.kinds[c] == 0 for c, k in roomed(g))),
@@ -144,7 +154,8 @@ SOUND = (
     ('the global queue holds no others than the fronts due', lambda g: set(used(g.queue)) <= set(due_fronts(g))),
     ('the global queue holds all the fronts due', lambda g: set(used(g.queue)) >= set(due_fronts(g))),
     ('the global queue holds them once each', lambda g: len(used(g.queue)) == len(set(used(g.queue)))),
-    ('an idle server means that nobody waits', lambda g: g.server != IDLE or in_places(g) == []),
+    ('an idle server means that no real-time client waits', lambda g: g.server != IDLE or lined(g) + roomed(g) == []),
+    ('an idle server means that no best-effort client waits', lambda g: g.server != IDLE or used(g.background) == []),
     ('best-effort charges are 0', lambda g: not any(g.charges[c] for c in range(g.N) if g.kinds[c] == 1)),
     ('no charge is over 16,777,215', lambda g: all(x <= LIMIT for x in g.charges)),
 )
