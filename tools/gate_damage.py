@@ -246,8 +246,8 @@ def noise(r, g):
 
 DAMAGES = [clusters, cap, clients, size, kind, home, priority, size_past, row_past, gap, number, room_number, line_past,
            room_past, newcomer, newcomer_in_room, newcomer_in_background, leaver, room_leaver, twice, twice_in_room,
-           spent_again, line_swap, queue_swap, queue_other, queued_twice, served_queued, blocked_front_queued, server_case,
-           served, falls_idle, idle_units, serves_another, units, best_charge, charge, byte, noise]
+           spent_again, line_swap, queue_swap, queue_other, queued_twice, served_queued, blocked_front_queued,
+           server_case, served, falls_idle, idle_units, serves_another, units, best_charge, charge, byte, noise]
 
 
 def damaged(r, g):
