@@ -1,0 +1,3 @@
+-- What follows from the definitions of this crate.
+pub mod Cases
+pub mod Laws

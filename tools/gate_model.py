@@ -1,0 +1,311 @@
+# A plain model of the gate, written from document 01 alone: what a sound gate is, and what a record does to one.
+# It shares nothing with the crates but the layout of a gate as bytes. Used by tools/draw_doors.py.
+import struct
+
+UNUSED = 255
+LIMIT = 16777215
+IDLE, FRONT, BEST, SPENT = 0, 1, 2, 3
+
+# The layout, numbers with their low byte first: K, N, L, 8 sizes, 64 kinds, 64 clusters, 64 priorities, 8 lines of 8
+# places, 8 waiting rooms, 8 places of the global queue, 64 of the background queue, the server's case and its client
+# (0 when idle), the units served, 64 charges.
+LAYOUT = struct.Struct('<BBH8s64s64s64H64s8Q8s64sBHI64I')
+
+
+class Gate:
+    """A gate, place by place, as the bytes have it."""
+
+    def __init__(g, data):
+        g.read(data)
+
+    def read(g, data):
+        f = list(LAYOUT.unpack(data))
+        g.K, g.N, g.L = f[0:3]
+        g.sizes, g.kinds, g.homes = (list(b) for b in f[3:6])
+        g.priorities = f[6:70]
+        g.lines = [list(f[70][8 * k:8 * k + 8]) for k in range(8)]
+        g.rooms = f[71:79]
+        g.queue, g.background = list(f[79]), list(f[80])
+        g.server, g.served, g.units = f[81:84]
+        g.charges = f[84:148]
+
+    def data(g):
+        return LAYOUT.pack(g.K, g.N, g.L, bytes(g.sizes), bytes(g.kinds), bytes(g.homes), *g.priorities,
+                           bytes(sum(g.lines, [])), *g.rooms, bytes(g.queue), bytes(g.background),
+                           g.server, g.served, g.units, *g.charges)
+
+    def copy(g):
+        return Gate(g.data())
+
+
+def fresh(K, N, L, sizes, rows):
+    """The fresh gate of a setup; a row is (kind, cluster, priority)."""
+    g = Gate(bytes(LAYOUT.size))
+    g.K, g.N, g.L = K, N, L
+    g.sizes[:K] = sizes
+    for c, (kind, home, priority) in enumerate(rows):
+        g.kinds[c], g.homes[c], g.priorities[c] = kind, home, priority
+    for places in g.lines + [g.queue, g.background]:
+        places[:] = [UNUSED] * len(places)
+    return g
+
+
+# READING A GATE
+
+def used(places):
+    return [c for c in places if c != UNUSED]
+
+
+def room(g, k):
+    return [c for c in range(64) if g.rooms[k] >> c & 1] if g.rooms[k] else []
+
+
+def waiting(g, k):
+    """Who is in the line or waiting room of a cluster."""
+    return used(g.lines[k]) + room(g, k)
+
+
+def waits(g, c):
+    """Whether a client waits: in a line, a waiting room or the background queue, or in service and not spent."""
+    queued = any(c in waiting(g, k) for k in range(g.K)) or c in used(g.background)
+    return queued or (g.server in (FRONT, BEST) and g.served == c)
+
+
+def is_spent(g, c):
+    return g.server == SPENT and g.served == c
+
+
+def is_blocked(g, k):
+    return g.server == SPENT and g.homes[g.served] == k
+
+
+def outranks(g, a, b):
+    return (g.priorities[a], a) < (g.priorities[b], b)
+
+
+# SOUND: the sentence of document 01, part by part
+
+def queues(g):
+    return g.lines + [g.queue, g.background]
+
+
+def used_first(places):
+    return places[:len(used(places))] == used(places)
+
+
+def lined(g):
+    """Each client that stands in the line of a cluster, with that cluster."""
+    return [(c, k) for k in range(8) for c in used(g.lines[k])]
+
+
+def roomed(g):
+    return [(c, k) for k in range(8) for c in room(g, k)]
+
+
+def standing(g):
+    """Who stands in a line, a room or the background queue, as often as it does."""
+    return [c for c, k in lined(g) + roomed(g)] + used(g.background)
+
+
+def due_fronts(g):
+    """The fronts that are not in service and whose cluster isn't blocked."""
+    fronts = [g.lines[k][0] for k in range(g.K) if used(g.lines[k]) and not is_blocked(g, k)]
+    return [c for c in fronts if not (g.server == FRONT and g.served == c)]
+
+
+SOUND = (
+    ('K is 1 to 8', lambda g: 1 <= g.K <= 8),
+    ('L is not 0', lambda g: g.L != 0),
+    ('N is at most 64', lambda g: g.N <= 64),
+    ('each size is 1 to 8', lambda g: all(1 <= m <= 8 for m in g.sizes[:g.K])),
+    ('each kind is 0 or 1', lambda g: all(kind in (0, 1) for kind in g.kinds[:g.N])),
+    ("each client's cluster is below K", lambda g: all(k < g.K for k in g.homes[:g.N])),
+    ('sizes past K are zero', lambda g: not any(g.sizes[g.K:])),
+    ('kinds past N are zero', lambda g: not any(g.kinds[g.N:])),
+    ('clusters past N are zero', lambda g: not any(g.homes[g.N:])),
+    ('priorities past N are zero', lambda g: not any(g.priorities[g.N:])),
+    ('charges past N are zero', lambda g: not any(g.charges[g.N:])),
+    ('used places of a line come first', lambda g: all(used_first(line) for line in g.lines)),
+    ('used places of the global queue come first', lambda g: used_first(g.queue)),
+    ('used places of the background queue come first', lambda g: used_first(g.background)),
+    ('used places hold numbers below N', lambda g: all(c < g.N for p in queues(g) for c in used(p))),
+    ('rooms hold only such numbers', lambda g: all(c < g.N for c, k in roomed(g))),
+    ('lines past K are empty', lambda g: all(k < g.K for c, k in lined(g))),
+    ('rooms past K are empty', lambda g: all(k < g.K for c, k in roomed(g))),
+    ('a line has at most m clients', lambda g: all(len(used(g.lines[k])) <= g.sizes[k] for k in range(g.K))),
+    ('units served are 0 when idle', lambda g: g.server != IDLE or g.units == 0),
+    ('units served are at most L', lambda g: g.units <= g.L),
+    ('the client in service is below N', lambda g: g.server == IDLE or g.served < g.N),
+    ('a front in service is in its line', lambda g: g.server != FRONT or g.served in g.lines[g.homes[g.served]]),
+    ('a front in service is not behind another there',
+     lambda g: g.server != FRONT or g.served not in g.lines[g.homes[g.served]][1:]),
+    ('a best-effort client in service is one', lambda g: g.server != BEST or g.kinds[g.served] == 1),
+    ('a spent client is real-time', lambda g: g.server != SPENT or g.kinds[g.served] == 0),
+    ('no client stands in two places', lambda g: len(standing(g)) == len(set(standing(g)))),
+    ('a best-effort client in service stands in none', lambda g: g.server != BEST or g.served not in standing(g)),
+    ('a spent client stands in none', lambda g: g.server != SPENT or g.served not in standing(g)),
+    ('every client in a line is real-time', lambda g: all(g.kinds[c] == 0 for c, k in lined(g))),
+    ('every client in a line is of that cluster', lambda g: all(g.homes[c] == k for c, k in lined(g))),
+    ('every client in a room is real-time', lambda g: all(g.kinds[c] == 0 for c, k in roomed(g))),
+    ('every client in a room is of that cluster', lambda g: all(g.homes[c] == k for c, k in roomed(g))),
+    ('only best-effort clients are in the background queue',
+     lambda g: all(g.kinds[c] == 1 for c in used(g.background))),
+    ('a waiting room is empty unless its line is full',
+     lambda g: all(len(used(g.lines[k])) == g.sizes[k] for k in range(g.K) if g.rooms[k])),
+    ('the global queue holds no others than the fronts due', lambda g: set(used(g.queue)) <= set(due_fronts(g))),
+    ('the global queue holds all the fronts due', lambda g: set(used(g.queue)) >= set(due_fronts(g))),
+    ('the global queue holds them once each', lambda g: len(used(g.queue)) == len(set(used(g.queue)))),
+    ('an idle server means that no real-time client waits', lambda g: g.server != IDLE or lined(g) + roomed(g) == []),
+    ('an idle server means that no best-effort client waits', lambda g: g.server != IDLE or used(g.background) == []),
+    ('best-effort charges are 0', lambda g: not any(g.charges[c] for c in range(g.N) if g.kinds[c] == 1)),
+    ('no charge is over 16,777,215', lambda g: all(x <= LIMIT for x in g.charges)),
+)
+
+
+def holds(g, part):
+    """Whether a part holds. One that can't be asked, as of a client past the rows, does not."""
+    try:
+        return part[1](g)
+    except IndexError:
+        return False
+
+
+def broken(g):
+    return [part for part in SOUND if not holds(g, part)]
+
+
+def sound(g):
+    return broken(g) == []
+
+
+# THE FOUR EVENTS
+
+def join(places, c):
+    places[places.index(UNUSED)] = c
+
+
+def leave(places, c):
+    """Others keep their order."""
+    places.remove(c)
+    places.append(UNUSED)
+
+
+def refill(g, k):
+    """If the line has room and the waiting room isn't empty, the highest in rank moves to the line's end."""
+    if len(used(g.lines[k])) < g.sizes[k] and room(g, k):
+        c = min(room(g, k), key=lambda a: (g.priorities[a], a))
+        g.rooms[k] &= ~(1 << c)
+        join(g.lines[k], c)
+
+
+def pick(g):
+    g.units = 0
+    if used(g.queue):
+        g.server, g.served = FRONT, g.queue[0]
+        leave(g.queue, g.served)
+    elif used(g.background):
+        g.server, g.served = BEST, g.background[0]
+        leave(g.background, g.served)
+    else:
+        g.server, g.served = IDLE, 0
+
+
+def join_front(g, k):
+    """The front of a line, if any, joins the end of the global queue."""
+    if used(g.lines[k]):
+        join(g.queue, g.lines[k][0])
+
+
+def invoke(g, c):
+    if c >= g.N:
+        return 10
+    if waits(g, c) or is_spent(g, c):
+        return 11
+    k = g.homes[c]
+    if g.kinds[c] == 1:
+        join(g.background, c)
+    else:
+        g.charges[c] = 0
+        if len(used(g.lines[k])) < g.sizes[k]:
+            join(g.lines[k], c)
+            if g.lines[k][0] == c and not is_blocked(g, k):
+                join(g.queue, c)
+        else:
+            g.rooms[k] |= 1 << c
+    if g.server == IDLE:
+        pick(g)
+    return 0
+
+
+def charged(g):
+    """Each real-time client in a line or room that fewer than m clients there outrank."""
+    return [c for k in range(g.K) for c in waiting(g, k)
+            if sum(outranks(g, a, c) for a in waiting(g, k)) < g.sizes[k]]
+
+
+def run(g, n):
+    if n == 0:
+        return 13
+    if g.server == IDLE:
+        return 12
+    if g.units + n > g.L:
+        return 14
+    if any(g.charges[c] + n > LIMIT for c in charged(g)):
+        return 19
+    g.units += n
+    for c in charged(g):
+        g.charges[c] += n
+    return 0
+
+
+def reply(g):
+    if g.server == IDLE:
+        return 12
+    was, c, k = g.server, g.served, g.homes[g.served]
+    g.server, g.served = IDLE, 0
+    if was == FRONT:
+        leave(g.lines[k], c)
+        refill(g, k)
+    if was in (FRONT, SPENT):
+        join_front(g, k)
+    pick(g)
+    return 0
+
+
+def abort(g, c):
+    if c >= g.N:
+        return 10
+    if g.kinds[c] == 1:
+        return 16
+    if not waits(g, c) and not is_spent(g, c):
+        return 15
+    if is_spent(g, c):
+        return 17
+    k = g.homes[c]
+    if c in room(g, k):
+        g.rooms[k] &= ~(1 << c)
+        return 0
+    was_front = g.lines[k][0] == c
+    leave(g.lines[k], c)
+    refill(g, k)
+    if was_front and g.server == FRONT and g.served == c:
+        g.server = SPENT
+    elif was_front and not is_blocked(g, k):
+        leave(g.queue, c)
+        join_front(g, k)
+    return 0
+
+
+def step_sound(g, code, argument):
+    """The answer to a record and the gate after it; the same gate where it is refused."""
+    if code not in (1, 2, 3, 4) or (code == 3 and argument != 0):
+        return 18, g
+    after = g.copy()
+    event = {1: invoke, 2: run, 4: abort}
+    answer = reply(after) if code == 3 else event[code](after, argument)
+    return answer, after if answer == 0 else g
+
+
+def step(g, code, argument):
+    """The same for any gate."""
+    return step_sound(g, code, argument) if sound(g) else (19, g)
