@@ -36,6 +36,7 @@ abbrev pub standing : Held → Standing
 standing h = record { n = h .n; used = h .used }
 
 -- A part is answered: a line for each order that ends in it, from a place on. The first n bytes of the room were held.
+-- What is held then is what the next part goes by; `bytes` says the whole room, with what stands behind it.
 pub record Answered (part room : List ℕ) (n : ℕ) (room′ out : List ℕ) (at : ℕ) (out′ : List ℕ) (r : Standing) : Type 0
   where
     pub text : WroteAt at (lines (map asked (ended (take n room) part))) out out′ (r .used)
