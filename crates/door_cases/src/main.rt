@@ -1,5 +1,5 @@
 // Tries the doors on gates from standard input. A case is a gate's bytes, a record's code and its 16-bit argument; its
-// line is 1 if the gate is sound, else 0, the answer, and each byte that the step changed. A case cut short ends it.
+// line is 1 if the gate is sound, else 0, the answer, and each byte that the step changed.
 mod layout;
 
 use events::Answered;
@@ -8,9 +8,9 @@ use layout::GATE;
 use layout::byte_of;
 use layout::gate_in;
 use libc::STDIN_FILENO;
-use libc::STDOUT_FILENO;
 use log::byte_at;
 use log::word_at;
+use streams::Whole;
 use text::LF;
 use text::SPACE;
 use text::put_byte;
@@ -49,17 +49,24 @@ fn answer_all() {
     }
 }
 
-// Reads a case and answers it, and tells whether there was one.
+// Reads a case and answers it, and tells whether to go on.
 fn answer_next() -> bool {
     let mut case = [0u8; CASE];
-    let n = io::read_full(STDIN_FILENO, &mut case);
+    let whole = streams::read_whole(STDIN_FILENO, &mut case);
+    let Whole::Bytes(n) = whole else {
+        streams::tell_unread();
+        return false;
+    };
+    if n == 0 {
+        return false;
+    }
     if n < CASE {
+        streams::tell(b"the last case is cut short\n");
         return false;
     }
     let mut out = [0u8; LINE];
     let k = put_case(&mut out, &case);
-    io::write_all(STDOUT_FILENO, &out[..k]);
-    true
+    streams::write_out(&out[..k])
 }
 
 fn wide(x: u8) -> u64

@@ -2,7 +2,7 @@
 // line for each pair, then how many came out the same and how many did not. Each pair that did not is told on standard
 // error too.
 use libc::STDOUT_FILENO;
-use log_files::Whole;
+use streams::Whole;
 ghost use mathlib.Core.Path.{_≡_};
 ghost use mathlib.Core.Bool.{true, false};
 ghost use Prim.Native.Nat.{_*_, _^_, _≤_, _<_};

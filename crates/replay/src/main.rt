@@ -1,6 +1,6 @@
 // Replays a log and writes its report to standard output. The log is the file that the argument names, or standard input.
 use libc::STDIN_FILENO;
-use log_files::Whole;
+use streams::Whole;
 
 fn main() {
     let words = os::arg_count();

@@ -1,2 +1,3 @@
--- What a read may give. Nothing is proved here.
+-- What a read may give, and what an input that was read whole leaves. Nothing is proved here.
 pub mod Got
+pub mod Whole

@@ -4,14 +4,28 @@
 use libc::STDERR_FILENO;
 use libc::STDOUT_FILENO;
 ghost use mathlib.Core.Path.{_≡_};
+ghost use Prim.Native.Nat.{_≤_};
 ghost use lib.ListN.{length};
 ghost use Rattle.streams.specs.Got.{gotIn, Within};
+ghost use Rattle.streams.specs.Whole.{Holds, Adds, standingAfter};
 
 // What one read gave.
 pub enum Got {
     Bytes(usize),
     End,
     Failed,
+}
+
+// How many bytes came, or that they can't be read.
+pub enum Whole {
+    Bytes(usize),
+    Failed,
+}
+
+// Where reading stands: how many bytes are held, of which there may be more, or what they are in all.
+pub enum Standing {
+    More(usize),
+    Done(Whole),
 }
 
 // Reads once: how many bytes came to the start of a part, or that the input has ended or can't be read.
@@ -35,6 +49,46 @@ fn got_in(answer: isize, part: &[u8]) -> Got
         return Got::End;
     }
     Got::Bytes(n)
+}
+
+// Reads to the end of an input, or as far as the room goes.
+pub fn read_whole(fd: i32, room: &mut [u8]) -> Whole
+    ensures { λ r. ⌜ Holds (now (room .exit)) r ⌝ }
+{
+    let mut n: usize = 0;
+    while n < room.len() {
+        let got = read_behind(fd, room, n);
+        let after = standing_after(n, room.len(), got);
+        match after {
+            Standing::More(k) => {
+                n = k;
+            }
+            Standing::Done(w) => {
+                return w;
+            }
+        }
+    }
+    Whole::Bytes(n)
+}
+
+// One read into the room behind the n bytes that are held.
+fn read_behind(fd: i32, room: &mut [u8], n: usize) -> Got
+    requires { ⌜ n ≤ length (now room) ⌝ }
+    ensures { λ r. ⌜ Adds n (length (now (room .entry))) r ⌝ }
+{
+    read_some(fd, &mut room[n..])
+}
+
+// Where reading stands after a read behind n bytes.
+fn standing_after(n: usize, size: usize, got: Got) -> Standing
+    requires { ⌜ Adds n size got ⌝ }
+    ensures { λ r. ⌜ r ≡ standingAfter n got ⌝ }
+{
+    match got {
+        Got::Bytes(k) => Standing::More(n + k),
+        Got::End => Standing::Done(Whole::Bytes(n)),
+        Got::Failed => Standing::Done(Whole::Failed),
+    }
 }
 
 // Writes all bytes to standard output. Where that fails it says so, and answers false.
