@@ -1,13 +1,12 @@
 -- A part behind a part is answered as the two in one, and a part of one byte as an LF or another byte is.
 -- Assumes nothing.
 use Prim.Native.Nat.{ℕ, suc, _+_, _≤_, _<_, min}
-use native.Mathlib.Numerals.{add-one}
 use native.Mathlib.Omega.{arith}
 use mathlib.Core.Path.{_≡_, refl, sym, ap, _∙_, subst}
 use mathlib.Core.List.{List, [], _∷_, _++_, map, append-nil}
 use lib.Dec.{eqb, ltb}
 use lib.ListN.{length, take, set, length-append, length-take}
-use lib.Seq.{take-all, take-take, take-suc-set, take-append-le, set-out, length-take-le}
+use lib.Seq.{take-all, take-suc-set, take-append-le, set-out, length-take-le}
 use borrow.Author.Tests.{eq-eqb, ne-eqb, ltb-true, ltb-false}
 use Rattle.rules.proofs.Tests.{by-test}
 use Rattle.text.specs.Text.{lf, WroteAt}

@@ -1,7 +1,7 @@
 -- `door_cases::put_case` meets its contract: the line of what the doors say.
 -- Assumes nothing.
 use Prim.Native.Nat.{ℕ}
-use mathlib.Core.Path.{_≡_, ap, _∙_, subst}
+use mathlib.Core.Path.{ap, _∙_, subst}
 use mathlib.Core.List.{List}
 use borrow.Author.Needs.{needs}
 use Rattle.text.specs.Text.{Wrote}

@@ -1,6 +1,5 @@
 -- `door_cases::layout::octet_of` meets its contract: what is left of the number has the byte that is left to find.
 -- Assumes nothing.
-use Prim.Native.Nat.{_≤_}
 use mathlib.Core.Path.{_≡_, refl, sym, ap, _∙_}
 use native.Mathlib.Omega.{arith}
 use Rattle.door_cases.specs.Layout.{octet}
