@@ -4,7 +4,7 @@ use Prim.Native.Nat.{ℕ, _+_, _*_}
 use mathlib.Core.Path.{_≡_, refl, ap, _∙_}
 use mathlib.Core.Bool.{true, false, _||_}
 use lib.Dec.{eqb, ltb, leb}
-use mathlib.Core.List.{List, _++_}
+use mathlib.Core.List.{List, [], _∷_, _++_, map}
 use mathlib.Core.Option.{Option, some, none}
 use lib.ListN.{length}
 use borrow.Author.Tests.{ne-eqb}
@@ -17,19 +17,25 @@ use Rattle.rules.specs.State.{State, fresh, isIdle, isSpent}
 use Rattle.rules.specs.Queues.{waits}
 use Rattle.rules.specs.Events.{Event, invoke, run, reply, abort}
 use Rattle.rules.specs.Step.{present, overcharges, answer}
-use Rattle.rules.specs.Records.{answerOf}
-use Rattle.rules.specs.Replay.{entriesFrom}
-use Rattle.rules.specs.Quote.{Order, quote}
+use Rattle.rules.specs.Records.{Record, eventOf, answerOf, stepOf}
+use Rattle.rules.specs.Replay.{Entry, entriesFrom}
+use Rattle.rules.specs.Quote.{Order, quote, AllTrue}
 use Rattle.rules.proofs.Tests.{by-test}
 use Rattle.rules.proofs.Quotes.{quote-cases}
 use Rattle.rules.proofs.Theorems.{refused-same}
 use Rattle.gate.specs.declared.Setup.{Setup}
 use Rattle.gate.specs.declared.Gate.{Gate}
+use Rattle.gate.specs.declared.Verdict.{Verdict}
+use Rattle.gate.specs.declared.Verdict.the-variants as given
 use Rattle.gate.specs.Shown.{setupOf, stateOf, shown}
+use Rattle.gate.specs.Made as verdict
 use Rattle.gate.specs.Made.{emptyGate, freshGate, verdictOf, made}
 use Rattle.gate.proofs.Reading.{shown-back}
 use Rattle.soundness.specs.Clauses.{soundOf}
 use Rattle.soundness.proofs.Exact.{passed-laid, empty-fails}
+use Rattle.events.specs.declared.Answer.{Answer}
+use Rattle.events.specs.declared.Answer.the-variants as is
+use Rattle.events.specs.Answers.{numberOf}
 use Rattle.step.specs.Stepped.{Told, stepped}
 use Rattle.log.specs.declared.Opening.the-variants.{Records, Refused}
 use Rattle.log.specs.declared.Refusal.{Refusal}
@@ -38,6 +44,10 @@ use Rattle.log.specs.declared.Refusal.the-variants.{ManyClients, CutTables, Bad
 use Rattle.log.specs.Opening.{told, setupIn, openingOf}
 use Rattle.log.specs.Reading.{recordSize}
 use Rattle.report.specs.Report.{heading, entryLines, refusedLine, whole, recordsIn, lastLines, replayed, reportOf}
+use Rattle.quote.specs.declared.Answer as quoted
+use Rattle.quote.specs.declared.Answer.the-variants as quoted-as
+use Rattle.quote.specs.Told as quotes
+use Rattle.order.specs.Orders.{maxBytes, values, orderFrom, asked}
 use Rattle.step.proofs.Doors.{step-sound}
 use Rattle.demands.specs.Numbers.{ofSetup, ofEvent, ofLog, ofOrder}
 
@@ -120,7 +130,14 @@ unfolding stepped
 step-number g o =
     by-test (soundOf g) (λ h. rw h (rules-number (setupOf (g .setup)) (stateOf g) o)) (λ h. rw h)
 
--- a setup 0 to 5,
+-- and so does every line of a report;
+pub report-numbers : (u : rules.Setup) (s : State) (rs : List Record)
+    → AllTrue (map (λ (e : Entry). has (e .answer) ofEvent) (entriesFrom u s rs))
+unfolding entriesFrom
+report-numbers u s [] = tt
+report-numbers u s (r ∷ rs) = (rules-number u s (eventOf r), report-numbers u (stepOf u s (eventOf r)) rs)
+
+-- a setup 0 to 5;
 pub setup-number : (v : Setup) → has (made v .told .number) ofSetup ≡ true
 unfolding made verdictOf setupAnswer
 setup-number v =
@@ -136,7 +153,13 @@ setup-number v =
 pub order-number : (o : Order) → has (quote o .answer) ofOrder ≡ true
 order-number o = quote-cases o (λ q. has (q .answer) ofOrder ≡ true) refl refl refl (λ f. refl)
 
--- and a refused log, or a cut record of it, 20 to 24 or what its setup is refused with.
+-- and so does any line of text;
+pub text-number : (s : List ℕ) → has (asked s .answer) ofOrder ≡ true
+unfolding asked
+text-number s =
+    by-test (ltb maxBytes (length s)) (λ a. rw a) (λ a. rw a (order-number (orderFrom (values s))))
+
+-- a refused log, or a cut record of it, 20 to 24 or what its setup is refused with.
 pub log-number : (r : Refusal) → has (told r .number) ofLog ≡ true
 log-number Long = refl
 log-number Short = refl
@@ -149,3 +172,33 @@ log-number CutTables = refl
 log-number (BadSize at) = refl
 log-number (BadRow at) = refl
 log-number (CutRecord at) = refl
+
+-- The numbers of the enums' cases: of an event's answer,
+pub answer-number : (a : Answer) → has (numberOf a) ofEvent ≡ true
+answer-number is.Accepted = refl
+answer-number is.NoClient = refl
+answer-number is.WaitsAlready = refl
+answer-number is.ServerIdle = refl
+answer-number is.RunOfNone = refl
+answer-number is.RunPastCap = refl
+answer-number is.NotWaiting = refl
+answer-number is.BestEffort = refl
+answer-number is.SpentAlready = refl
+answer-number is.Unknown = refl
+answer-number is.Unsound = refl
+
+-- of a setup's verdict,
+pub verdict-number : (v : Verdict) → has (verdict.told v .number) ofSetup ≡ true
+verdict-number given.Accepted = refl
+verdict-number given.BadClusters = refl
+verdict-number given.NoCap = refl
+verdict-number given.ManyClients = refl
+verdict-number (given.BadSize k) = refl
+verdict-number (given.BadRow c) = refl
+
+-- and of a quote.
+pub quote-number : (a : quoted.Answer) → has (quotes.told a .answer) ofOrder ≡ true
+quote-number (quoted-as.Accepted b) = refl
+quote-number (quoted-as.FieldOut at) = refl
+quote-number quoted-as.OverPeriod = refl
+quote-number quoted-as.BadLines = refl
