@@ -1,4 +1,5 @@
-// Replays a log and writes its report to standard output. The log is the file that the argument names, or standard input.
+// Replays a log and writes its report to standard output. The log is the file that the argument names, or standard
+// input.
 use libc::STDIN_FILENO;
 use streams::Whole;
 

@@ -57,19 +57,23 @@ returns-4 c = search needs
 
 array-share-prefix-bytes : tie.Need-array-share-prefix-bytes
 array-share-prefix-bytes c =
-    let b = c .before .before .before .before in b .before .before .before .before .read-log .ensures .0 _ (b .b .given .1) .0
+    let b = c .before .before .before .before in
+    b .before .before .before .before .read-log .ensures .0 _ (b .b .given .1) .0
 
 slice-aggregate-matches : tie.Need-slice-aggregate-matches
 slice-aggregate-matches c =
-    let b = c .before .before .before .before .before in b .before .before .before .before .read-log .ensures .0 _ (b .b .given .1) .1
+    let b = c .before .before .before .before .before in
+    b .before .before .before .before .read-log .ensures .0 _ (b .b .given .1) .1
 
 array-share-prefix-text : tie.Need-array-share-prefix-text
 array-share-prefix-text c =
-    let t = c .before .before in t .before .before .before .before .before .read-report .ensures .0 _ (t .t .given .1) .0
+    let t = c .before .before in
+    t .before .before .before .before .before .read-report .ensures .0 _ (t .t .given .1) .0
 
 slice-aggregate-matches-2 : tie.Need-slice-aggregate-matches-2
 slice-aggregate-matches-2 c =
-    let t = c .before .before .before in t .before .before .before .before .before .read-report .ensures .0 _ (t .t .given .1) .1
+    let t = c .before .before .before in
+    t .before .before .before .before .before .read-report .ensures .0 _ (t .t .given .1) .1
 
 matches-requires : tie.Need-matches-requires
 matches-requires c κs = search needs

@@ -50,8 +50,9 @@ returns-2 : tie.Need-returns-2
 returns-2 c =
     let s = c .before .before .before .before in
     let x = s .args .answer in
-    let i = c .before .before .if1 in (
-      ended x _ (back x (s .fits .answer .sfits)) _ _ (i .left) (c .before .count .ensures .1) (eq-eqb _ _ (c .if2 .taken)),
+    let i = c .before .before .if1 in
+    let n = c .before .count .ensures .1 in (
+      ended x _ (back x (s .fits .answer .sfits)) _ _ (i .left) n (eq-eqb _ _ (c .if2 .taken)),
       λ n e. let z : _≡_ {A = ℕ} 0 1 = cc in absurd (omega arith),
     )
 
@@ -59,8 +60,9 @@ returns-3 : tie.Need-returns-3
 returns-3 c =
     let s = c .before .before .before .before in
     let x = s .args .answer in
-    let i = c .before .before .if1 in (
-      came x _ (back x (s .fits .answer .sfits)) _ _ (i .left) (c .before .count .ensures .1) (ne-eqb _ _ (c .if2 .left)),
+    let i = c .before .before .if1 in
+    let m = c .before .count .ensures .1 in (
+      came x _ (back x (s .fits .answer .sfits)) _ _ (i .left) m (ne-eqb _ _ (c .if2 .left)),
       λ n e.
           let same : c .before .count .result ≡ n = cc in
           (rw same at (c .before .count .ensures .0), omega arith),
