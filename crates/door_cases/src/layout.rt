@@ -1,6 +1,6 @@
-// A gate as bytes: every field in its turn, numbers with their low byte first. K, N, L, 8 sizes, 64 kinds, 64 clusters, 64
-// priorities, 8 lines of 8 places, 8 waiting rooms, 8 places of the global queue, 64 of the background queue, the server's
-// case and its client (0 when idle), the units served, 64 charges.
+// A gate as bytes: every field in its turn, numbers with their low byte first. K, N, L, 8 sizes, 64 kinds, 64 clusters,
+// 64 priorities, 8 lines of 8 places, 8 waiting rooms, 8 places of the global queue, 64 of the background queue, the
+// server's case and its client (0 when idle), the units served, 64 charges.
 
 use gate::Client;
 use gate::Gate;
@@ -158,16 +158,24 @@ fn without_columns(b: &[u8]) -> Gate {
     }
 }
 
+// A setup with row i as the bytes have it.
+fn with_row(s: Setup, b: &[u8], i: usize) -> Setup
+    requires { ⌜ i < 64 ⌝ }
+{
+    let mut filled = s;
+    filled.kinds[i] = byte_at(b, KINDS + i);
+    filled.homes[i] = byte_at(b, HOMES + i);
+    filled.priorities[i] = word_at(b, PRIORITIES + 2 * i);
+    filled
+}
+
 // A gate with place i of each of its columns of 64 as the bytes have it.
 fn with_places(g: Gate, b: &[u8], i: usize) -> Gate
     requires { ⌜ i < 64 ⌝ }
 {
-    let mut s = g.setup;
-    s.kinds[i] = byte_at(b, KINDS + i);
-    s.homes[i] = byte_at(b, HOMES + i);
-    s.priorities[i] = word_at(b, PRIORITIES + 2 * i);
+    let setup = with_row(g.setup, b, i);
     let mut filled = g;
-    filled.setup = s;
+    filled.setup = setup;
     filled.background[i] = byte_at(b, BACKGROUND + i);
     filled.charges[i] = long_at(b, CHARGES + 4 * i);
     filled
@@ -224,6 +232,9 @@ fn server_byte(s: Server, j: usize) -> u8
 fn setup_byte(s: Setup, i: usize) -> u8
     requires { ⌜ i < 268 ⌝ }
 {
+    if i >= KINDS {
+        return row_byte(s, i - KINDS);
+    }
     if i == 0 {
         return s.clusters;
     }
@@ -233,19 +244,34 @@ fn setup_byte(s: Setup, i: usize) -> u8
     if i < SIZES {
         return octet_of(wide16(s.cap), i - 2);
     }
-    if i < KINDS {
-        return s.sizes[i - SIZES];
+    s.sizes[i - SIZES]
+}
+
+// Byte i of the kinds, clusters and priorities.
+fn row_byte(s: Setup, i: usize) -> u8
+    requires { ⌜ i < 256 ⌝ }
+{
+    if i < 64 {
+        return s.kinds[i];
     }
-    if i < HOMES {
-        return s.kinds[i - KINDS];
+    if i < 128 {
+        return s.homes[i - 64];
     }
-    if i < PRIORITIES {
-        return s.homes[i - HOMES];
+    octet_of(wide16(s.priorities[(i - 128) / 2]), i % 2)
+}
+
+// Byte i of the lines, waiting rooms and the global queue.
+fn queue_byte(g: Gate, i: usize) -> u8
+    requires { ⌜ i < 136 ⌝ }
+{
+    if i < 64 {
+        let line = g.lines[i / 8];
+        return line.places[i % 8];
     }
-    octet_of(
-        wide16(s.priorities[(i - PRIORITIES) / 2]),
-        (i - PRIORITIES) % 2,
-    )
+    if i < 128 {
+        return octet_of(g.rooms[(i - 64) / 8], i % 8);
+    }
+    g.global[i - 128]
 }
 
 // Byte i of a gate.
@@ -253,28 +279,26 @@ pub fn byte_of(g: Gate, i: usize) -> u8
     requires { ⌜ i < 731 ⌝ }
 {
     if i < LINES {
-        let s = g.setup;
-        return setup_byte(s, i);
-    }
-    if i < ROOMS {
-        let line = g.lines[(i - LINES) / 8];
-        return line.places[(i - LINES) % 8];
-    }
-    if i < GLOBAL {
-        return octet_of(g.rooms[(i - ROOMS) / 8], (i - ROOMS) % 8);
+        return setup_byte(g.setup, i);
     }
     if i < BACKGROUND {
-        return g.global[i - GLOBAL];
+        return queue_byte(g, i - LINES);
     }
-    if i < SERVER {
-        return g.background[i - BACKGROUND];
+    service_byte(g, i - BACKGROUND)
+}
+
+// Byte i of the background queue, the server, the units and the charges.
+fn service_byte(g: Gate, i: usize) -> u8
+    requires { ⌜ i < 327 ⌝ }
+{
+    if i < 64 {
+        return g.background[i];
     }
-    if i < UNITS {
-        let s = g.server;
-        return server_byte(s, i - SERVER);
+    if i < 67 {
+        return server_byte(g.server, i - 64);
     }
-    if i < CHARGES {
-        return octet_of(wide32(g.units), i - UNITS);
+    if i < 71 {
+        return octet_of(wide32(g.units), i - 67);
     }
-    octet_of(wide32(g.charges[(i - CHARGES) / 4]), (i - CHARGES) % 4)
+    octet_of(wide32(g.charges[(i - 71) / 4]), (i - 71) % 4)
 }
