@@ -9,7 +9,7 @@ use gate::Server;
 use gate::Setup;
 use log::byte_at;
 use log::word_at;
-ghost use Prim.Native.Nat.{_<_};
+ghost use Prim.Native.Nat.{_≤_, _<_};
 
 // The bytes of a gate.
 pub const GATE: usize = 731;
@@ -233,7 +233,7 @@ fn setup_byte(s: Setup, i: usize) -> u8
     requires { ⌜ i < 268 ⌝ }
 {
     if i >= KINDS {
-        return row_byte(s, i - KINDS);
+        return row_byte(s, i);
     }
     if i == 0 {
         return s.clusters;
@@ -247,31 +247,47 @@ fn setup_byte(s: Setup, i: usize) -> u8
     s.sizes[i - SIZES]
 }
 
-// Byte i of the kinds, clusters and priorities.
+// A byte of the kinds, clusters and priorities.
 fn row_byte(s: Setup, i: usize) -> u8
-    requires { ⌜ i < 256 ⌝ }
+    requires { ⌜ (12 ≤ i) × (i < 268) ⌝ }
 {
-    if i < 64 {
-        return s.kinds[i];
+    if i < HOMES {
+        return s.kinds[i - KINDS];
     }
-    if i < 128 {
-        return s.homes[i - 64];
+    if i < PRIORITIES {
+        return s.homes[i - HOMES];
     }
-    octet_of(wide16(s.priorities[(i - 128) / 2]), i % 2)
+    octet_of(wide16(s.priorities[(i - PRIORITIES) / 2]), i % 2)
 }
 
-// Byte i of the lines, waiting rooms and the global queue.
+// A byte of the lines, the waiting rooms and the global queue.
 fn queue_byte(g: Gate, i: usize) -> u8
-    requires { ⌜ i < 136 ⌝ }
+    requires { ⌜ (268 ≤ i) × (i < 404) ⌝ }
 {
-    if i < 64 {
-        let line = g.lines[i / 8];
-        return line.places[i % 8];
+    if i < ROOMS {
+        let line = g.lines[(i - LINES) / 8];
+        return line.places[(i - LINES) % 8];
     }
-    if i < 128 {
-        return octet_of(g.rooms[(i - 64) / 8], i % 8);
+    if i < GLOBAL {
+        return octet_of(g.rooms[(i - ROOMS) / 8], (i - ROOMS) % 8);
     }
-    g.global[i - 128]
+    g.global[i - GLOBAL]
+}
+
+// A byte of the background queue, the server, the units and the charges.
+fn service_byte(g: Gate, i: usize) -> u8
+    requires { ⌜ (404 ≤ i) × (i < 731) ⌝ }
+{
+    if i < SERVER {
+        return g.background[i - BACKGROUND];
+    }
+    if i < UNITS {
+        return server_byte(g.server, i - SERVER);
+    }
+    if i < CHARGES {
+        return octet_of(wide32(g.units), i - UNITS);
+    }
+    octet_of(wide32(g.charges[(i - CHARGES) / 4]), (i - CHARGES) % 4)
 }
 
 // Byte i of a gate.
@@ -282,23 +298,7 @@ pub fn byte_of(g: Gate, i: usize) -> u8
         return setup_byte(g.setup, i);
     }
     if i < BACKGROUND {
-        return queue_byte(g, i - LINES);
+        return queue_byte(g, i);
     }
-    service_byte(g, i - BACKGROUND)
-}
-
-// Byte i of the background queue, the server, the units and the charges.
-fn service_byte(g: Gate, i: usize) -> u8
-    requires { ⌜ i < 327 ⌝ }
-{
-    if i < 64 {
-        return g.background[i];
-    }
-    if i < 67 {
-        return server_byte(g.server, i - 64);
-    }
-    if i < 71 {
-        return octet_of(wide32(g.units), i - 67);
-    }
-    octet_of(wide32(g.charges[(i - 71) / 4]), (i - 71) % 4)
+    service_byte(g, i)
 }
