@@ -1,6 +1,6 @@
-// A gate as bytes: every field in its turn, numbers with their low byte first. K, N, L, 8 sizes, 64 kinds, 64 clusters, 64
-// priorities, 8 lines of 8 places, 8 waiting rooms, 8 places of the global queue, 64 of the background queue, the server's
-// case and its client (0 when idle), the units served, 64 charges.
+// A gate as bytes: every field in its turn, numbers with their low byte first. K, N, L, 8 sizes, 64 kinds, 64 clusters,
+// 64 priorities, 8 lines of 8 places, 8 waiting rooms, 8 places of the global queue, 64 of the background queue, the
+// server's case and its client (0 when idle), the units served, 64 charges.
 
 use gate::Client;
 use gate::Gate;
@@ -9,7 +9,7 @@ use gate::Server;
 use gate::Setup;
 use log::byte_at;
 use log::word_at;
-ghost use Prim.Native.Nat.{_<_};
+ghost use Prim.Native.Nat.{_≤_, _<_};
 
 // The bytes of a gate.
 pub const GATE: usize = 731;
@@ -158,16 +158,24 @@ fn without_columns(b: &[u8]) -> Gate {
     }
 }
 
+// A setup with row i as the bytes have it.
+fn with_row(s: Setup, b: &[u8], i: usize) -> Setup
+    requires { ⌜ i < 64 ⌝ }
+{
+    let mut filled = s;
+    filled.kinds[i] = byte_at(b, KINDS + i);
+    filled.homes[i] = byte_at(b, HOMES + i);
+    filled.priorities[i] = word_at(b, PRIORITIES + 2 * i);
+    filled
+}
+
 // A gate with place i of each of its columns of 64 as the bytes have it.
 fn with_places(g: Gate, b: &[u8], i: usize) -> Gate
     requires { ⌜ i < 64 ⌝ }
 {
-    let mut s = g.setup;
-    s.kinds[i] = byte_at(b, KINDS + i);
-    s.homes[i] = byte_at(b, HOMES + i);
-    s.priorities[i] = word_at(b, PRIORITIES + 2 * i);
+    let setup = with_row(g.setup, b, i);
     let mut filled = g;
-    filled.setup = s;
+    filled.setup = setup;
     filled.background[i] = byte_at(b, BACKGROUND + i);
     filled.charges[i] = long_at(b, CHARGES + 4 * i);
     filled
@@ -224,6 +232,9 @@ fn server_byte(s: Server, j: usize) -> u8
 fn setup_byte(s: Setup, i: usize) -> u8
     requires { ⌜ i < 268 ⌝ }
 {
+    if i >= KINDS {
+        return row_byte(s, i);
+    }
     if i == 0 {
         return s.clusters;
     }
@@ -233,29 +244,26 @@ fn setup_byte(s: Setup, i: usize) -> u8
     if i < SIZES {
         return octet_of(wide16(s.cap), i - 2);
     }
-    if i < KINDS {
-        return s.sizes[i - SIZES];
-    }
+    s.sizes[i - SIZES]
+}
+
+// A byte of the kinds, clusters and priorities.
+fn row_byte(s: Setup, i: usize) -> u8
+    requires { ⌜ (12 ≤ i) × (i < 268) ⌝ }
+{
     if i < HOMES {
         return s.kinds[i - KINDS];
     }
     if i < PRIORITIES {
         return s.homes[i - HOMES];
     }
-    octet_of(
-        wide16(s.priorities[(i - PRIORITIES) / 2]),
-        (i - PRIORITIES) % 2,
-    )
+    octet_of(wide16(s.priorities[(i - PRIORITIES) / 2]), i % 2)
 }
 
-// Byte i of a gate.
-pub fn byte_of(g: Gate, i: usize) -> u8
-    requires { ⌜ i < 731 ⌝ }
+// A byte of the lines, the waiting rooms and the global queue.
+fn queue_byte(g: Gate, i: usize) -> u8
+    requires { ⌜ (268 ≤ i) × (i < 404) ⌝ }
 {
-    if i < LINES {
-        let s = g.setup;
-        return setup_byte(s, i);
-    }
     if i < ROOMS {
         let line = g.lines[(i - LINES) / 8];
         return line.places[(i - LINES) % 8];
@@ -263,18 +271,34 @@ pub fn byte_of(g: Gate, i: usize) -> u8
     if i < GLOBAL {
         return octet_of(g.rooms[(i - ROOMS) / 8], (i - ROOMS) % 8);
     }
-    if i < BACKGROUND {
-        return g.global[i - GLOBAL];
-    }
+    g.global[i - GLOBAL]
+}
+
+// A byte of the background queue, the server, the units and the charges.
+fn service_byte(g: Gate, i: usize) -> u8
+    requires { ⌜ (404 ≤ i) × (i < 731) ⌝ }
+{
     if i < SERVER {
         return g.background[i - BACKGROUND];
     }
     if i < UNITS {
-        let s = g.server;
-        return server_byte(s, i - SERVER);
+        return server_byte(g.server, i - SERVER);
     }
     if i < CHARGES {
         return octet_of(wide32(g.units), i - UNITS);
     }
     octet_of(wide32(g.charges[(i - CHARGES) / 4]), (i - CHARGES) % 4)
+}
+
+// Byte i of a gate.
+pub fn byte_of(g: Gate, i: usize) -> u8
+    requires { ⌜ i < 731 ⌝ }
+{
+    if i < LINES {
+        return setup_byte(g.setup, i);
+    }
+    if i < BACKGROUND {
+        return queue_byte(g, i);
+    }
+    service_byte(g, i)
 }

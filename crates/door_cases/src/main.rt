@@ -2,6 +2,7 @@
 // line is 1 if the gate is sound, else 0, the answer, and each byte that the step changed.
 mod layout;
 
+use events::Answered;
 use gate::Gate;
 use layout::GATE;
 use layout::byte_of;
@@ -70,8 +71,14 @@ fn wide(x: u8) -> u64 {
     x as u64
 }
 
-fn flag(b: bool) -> u8 {
-    if b { b'1' } else { b'0' }
+// 1 if a gate is sound, else 0.
+fn flag(g: Gate) -> u8 {
+    if sound::sound(g) { b'1' } else { b'0' }
+}
+
+// What the step makes of a gate and the record of a case.
+fn tried(g: Gate, case: &[u8]) -> Answered {
+    step::step_record(g, byte_at(case, GATE), word_at(case, GATE + 1))
 }
 
 // The line of a case.
@@ -79,15 +86,20 @@ fn put_case(out: &mut [u8; LINE], case: &[u8]) -> usize
     ensures { λ r. ⌜ r ≤ length (now (out .exit)) ⌝ }
 {
     let g = gate_in(case);
-    let f = flag(sound::sound(g));
-    let r = step::step_record(g, byte_at(case, GATE), word_at(case, GATE + 1));
+    let r = tried(g, case);
     let answer = r.answer;
     let after = r.gate;
+    let at = put_answer(out, flag(g), events::number(answer));
+    let end = put_changes(out, at, case, after);
+    put_byte(out, end, LF)
+}
+
+fn put_answer(out: &mut [u8; LINE], f: u8, n: u64) -> usize
+    ensures { λ r. ⌜ r ≤ 22 ⌝ }
+{
     let a = put_byte(out, 0, f);
     let b = put_byte(out, a, SPACE);
-    let c = put_number(out, b, events::number(answer));
-    let d = put_changes(out, c, case, after);
-    put_byte(out, d, LF)
+    put_number(out, b, n)
 }
 
 // Each byte of a gate that differs from the case's own.
