@@ -9,35 +9,33 @@ use gate::Server;
 use gate::Setup;
 use log::byte_at;
 use log::word_at;
-ghost use Prim.Native.Nat.{_≤_, _<_};
+ghost use Prim.Native.Nat.{_<_};
 
 // The bytes of a gate.
 pub const GATE: usize = 731;
 
 // Where each field begins.
-const SIZES: usize = 4;
+pub const SIZES: usize = 4;
 
-const KINDS: usize = 12;
+pub const KINDS: usize = 12;
 
-const HOMES: usize = 76;
+pub const HOMES: usize = 76;
 
-const PRIORITIES: usize = 140;
+pub const PRIORITIES: usize = 140;
 
-const LINES: usize = 268;
+pub const LINES: usize = 268;
 
-const ROOMS: usize = 332;
+pub const ROOMS: usize = 332;
 
-const GLOBAL: usize = 396;
+pub const GLOBAL: usize = 396;
 
-const BACKGROUND: usize = 404;
+pub const BACKGROUND: usize = 404;
 
-const SERVER: usize = 468;
+pub const SERVER: usize = 468;
 
-const UNITS: usize = 471;
+pub const UNITS: usize = 471;
 
-const CHARGES: usize = 475;
-
-// READ
+pub const CHARGES: usize = 475;
 
 fn long(low: u16, high: u16) -> u32 {
     low as u32 + 65536 * (high as u32)
@@ -190,115 +188,4 @@ pub fn gate_in(b: &[u8]) -> Gate {
         i += 1;
     }
     g
-}
-
-// WRITTEN
-
-// Byte j of a number.
-fn octet_of(x: u64, j: usize) -> u8
-    requires { ⌜ j < 8 ⌝ }
-{
-    ((x >> (8 * j)) % 256) as u8
-}
-
-fn wide16(x: u16) -> u64 {
-    x as u64
-}
-
-fn wide32(x: u32) -> u64 {
-    x as u64
-}
-
-fn client_byte(c: Client, code: u8, j: usize) -> u8
-    requires { ⌜ j < 3 ⌝ }
-{
-    if j == 0 {
-        return code;
-    }
-    octet_of(wide16(c.0), j - 1)
-}
-
-fn server_byte(s: Server, j: usize) -> u8
-    requires { ⌜ j < 3 ⌝ }
-{
-    match s {
-        Server::Idle => 0,
-        Server::Front(c) => client_byte(c, 1, j),
-        Server::Best(c) => client_byte(c, 2, j),
-        Server::Spent(c) => client_byte(c, 3, j),
-    }
-}
-
-fn setup_byte(s: Setup, i: usize) -> u8
-    requires { ⌜ i < 268 ⌝ }
-{
-    if i >= KINDS {
-        return row_byte(s, i);
-    }
-    if i == 0 {
-        return s.clusters;
-    }
-    if i == 1 {
-        return s.clients;
-    }
-    if i < SIZES {
-        return octet_of(wide16(s.cap), i - 2);
-    }
-    s.sizes[i - SIZES]
-}
-
-// A byte of the kinds, clusters and priorities.
-fn row_byte(s: Setup, i: usize) -> u8
-    requires { ⌜ (12 ≤ i) × (i < 268) ⌝ }
-{
-    if i < HOMES {
-        return s.kinds[i - KINDS];
-    }
-    if i < PRIORITIES {
-        return s.homes[i - HOMES];
-    }
-    octet_of(wide16(s.priorities[(i - PRIORITIES) / 2]), i % 2)
-}
-
-// A byte of the lines, the waiting rooms and the global queue.
-fn queue_byte(g: Gate, i: usize) -> u8
-    requires { ⌜ (268 ≤ i) × (i < 404) ⌝ }
-{
-    if i < ROOMS {
-        let line = g.lines[(i - LINES) / 8];
-        return line.places[(i - LINES) % 8];
-    }
-    if i < GLOBAL {
-        return octet_of(g.rooms[(i - ROOMS) / 8], (i - ROOMS) % 8);
-    }
-    g.global[i - GLOBAL]
-}
-
-// A byte of the background queue, the server, the units and the charges.
-fn service_byte(g: Gate, i: usize) -> u8
-    requires { ⌜ (404 ≤ i) × (i < 731) ⌝ }
-{
-    if i < SERVER {
-        return g.background[i - BACKGROUND];
-    }
-    if i < UNITS {
-        return server_byte(g.server, i - SERVER);
-    }
-    if i < CHARGES {
-        return octet_of(wide32(g.units), i - UNITS);
-    }
-    octet_of(wide32(g.charges[(i - CHARGES) / 4]), (i - CHARGES) % 4)
-}
-
-// Byte i of a gate.
-pub fn byte_of(g: Gate, i: usize) -> u8
-    requires { ⌜ i < 731 ⌝ }
-{
-    if i < LINES {
-        return setup_byte(g.setup, i);
-    }
-    if i < BACKGROUND {
-        return queue_byte(g, i);
-    }
-    service_byte(g, i)
 }

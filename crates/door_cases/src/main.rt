@@ -1,11 +1,12 @@
 // Tries the doors on gates from standard input. A case is a gate's bytes, a record's code and its 16-bit argument; its
 // line is 1 if the gate is sound, else 0, the answer, and each byte that the step changed.
+mod bytes;
 mod layout;
 
+use bytes::byte_of;
 use events::Answered;
 use gate::Gate;
 use layout::GATE;
-use layout::byte_of;
 use layout::gate_in;
 use libc::STDIN_FILENO;
 use log::byte_at;

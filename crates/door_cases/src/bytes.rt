@@ -1,0 +1,127 @@
+// Byte by byte, the gate that the bytes of layout.rt say.
+
+use crate::layout::BACKGROUND;
+use crate::layout::CHARGES;
+use crate::layout::GLOBAL;
+use crate::layout::HOMES;
+use crate::layout::KINDS;
+use crate::layout::LINES;
+use crate::layout::PRIORITIES;
+use crate::layout::ROOMS;
+use crate::layout::SERVER;
+use crate::layout::SIZES;
+use crate::layout::UNITS;
+use gate::Client;
+use gate::Gate;
+use gate::Server;
+use gate::Setup;
+ghost use Prim.Native.Nat.{_≤_, _<_};
+
+// Byte j of a number.
+fn octet_of(x: u64, j: usize) -> u8
+    requires { ⌜ j < 8 ⌝ }
+{
+    ((x >> (8 * j)) % 256) as u8
+}
+
+fn wide16(x: u16) -> u64 {
+    x as u64
+}
+
+fn wide32(x: u32) -> u64 {
+    x as u64
+}
+
+fn client_byte(c: Client, code: u8, j: usize) -> u8
+    requires { ⌜ j < 3 ⌝ }
+{
+    if j == 0 {
+        return code;
+    }
+    octet_of(wide16(c.0), j - 1)
+}
+
+fn server_byte(s: Server, j: usize) -> u8
+    requires { ⌜ j < 3 ⌝ }
+{
+    match s {
+        Server::Idle => 0,
+        Server::Front(c) => client_byte(c, 1, j),
+        Server::Best(c) => client_byte(c, 2, j),
+        Server::Spent(c) => client_byte(c, 3, j),
+    }
+}
+
+fn setup_byte(s: Setup, i: usize) -> u8
+    requires { ⌜ i < 268 ⌝ }
+{
+    if i >= KINDS {
+        return row_byte(s, i);
+    }
+    if i == 0 {
+        return s.clusters;
+    }
+    if i == 1 {
+        return s.clients;
+    }
+    if i < SIZES {
+        return octet_of(wide16(s.cap), i - 2);
+    }
+    s.sizes[i - SIZES]
+}
+
+// A byte of the kinds, clusters and priorities.
+fn row_byte(s: Setup, i: usize) -> u8
+    requires { ⌜ (12 ≤ i) × (i < 268) ⌝ }
+{
+    if i < HOMES {
+        return s.kinds[i - KINDS];
+    }
+    if i < PRIORITIES {
+        return s.homes[i - HOMES];
+    }
+    octet_of(wide16(s.priorities[(i - PRIORITIES) / 2]), i % 2)
+}
+
+// A byte of the lines, the waiting rooms and the global queue.
+fn queue_byte(g: Gate, i: usize) -> u8
+    requires { ⌜ (268 ≤ i) × (i < 404) ⌝ }
+{
+    if i < ROOMS {
+        let line = g.lines[(i - LINES) / 8];
+        return line.places[(i - LINES) % 8];
+    }
+    if i < GLOBAL {
+        return octet_of(g.rooms[(i - ROOMS) / 8], (i - ROOMS) % 8);
+    }
+    g.global[i - GLOBAL]
+}
+
+// A byte of the background queue, the server, the units and the charges.
+fn service_byte(g: Gate, i: usize) -> u8
+    requires { ⌜ (404 ≤ i) × (i < 731) ⌝ }
+{
+    if i < SERVER {
+        return g.background[i - BACKGROUND];
+    }
+    if i < UNITS {
+        return server_byte(g.server, i - SERVER);
+    }
+    if i < CHARGES {
+        return octet_of(wide32(g.units), i - UNITS);
+    }
+    octet_of(wide32(g.charges[(i - CHARGES) / 4]), (i - CHARGES) % 4)
+}
+
+// Byte i of a gate.
+pub fn byte_of(g: Gate, i: usize) -> u8
+    requires { ⌜ i < 731 ⌝ }
+{
+    if i < LINES {
+        return setup_byte(g.setup, i);
+    }
+    if i < BACKGROUND {
+        return queue_byte(g, i);
+    }
+    service_byte(g, i)
+}
