@@ -69,13 +69,13 @@ module _ (u : Setup) where
   abbrev pub callsAgain : ℕ → State → Event → ℕ → ℕ
   callsAgain c s e n = cond (begins c e) (suc n) n
 
-  -- how often it was accepted with an invoke
+  -- how many of its invokes were accepted
   abbrev pub calls : ℕ → List Record → ℕ
   calls c = along (callsAgain c) 0
 
   -- WHEN IT WAITS
 
-  -- .. to the reply that ends it or the client's accepted abort. A reply ends the request in service.
+  -- A wait runs to the reply that ends it or the client's accepted abort. A reply ends the request in service.
   abbrev pub ends : ℕ → State → Event → Bool
   ends c s (invoke d) = false
   ends c s (run n) = false
@@ -106,6 +106,7 @@ module _ (u : Setup) where
   abbrev pub strikesInRoom : ℕ → State → Event → Bool
   strikesInRoom c s e = hits c s e && s .room c
 
+  -- an event has passed the test p since c's latest accepted invoke
   abbrev pub passedIn : (ℕ → State → Event → Bool) → ℕ → State → Event → Bool → Bool
   passedIn p c s e b = cond (begins c e) false (p c s e || b)
 
