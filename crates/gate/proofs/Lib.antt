@@ -5,4 +5,6 @@ pub mod Making
 pub mod Tables
 pub mod Reading
 pub mod SoundShows
+pub mod Fits
+pub mod Parts
 pub mod Only

@@ -22,9 +22,10 @@ use Rattle.gate.specs.declared.Server.{Server}
 use Rattle.gate.specs.declared.Server.the-variants.{Idle, Front, Best, Spent}
 use Rattle.gate.specs.declared.Setup.{Setup}
 use Rattle.gate.specs.declared.Gate.{Gate}
+use Rattle.gate.specs.Parts.{service, queues, gateOf}
 use Rattle.gate.specs.Shown.{setupOf, serverOf, blankLine, stateOf}
 use Rattle.gate.specs.Shown.{table, showServer, showLines, showRooms, shown}
-use Rattle.gate.specs.Shows.{Fine, Fits, ServerFits, Shows, Within}
+use Rattle.gate.specs.Shows.{Fine, Fits, ServerFits, ShowsList, Shows, Within}
 use Rattle.gate.proofs.Tables.{table-at, table-past, table-same, list-table}
 
 -- PARTS
@@ -35,33 +36,25 @@ show-server (Front c) = refl
 show-server (Best c) = refl
 show-server (Spent c) = refl
 
-abbrev gateOf : Setup → List Line → List ℕ → List ℕ → List ℕ → Server → ℕ → List ℕ → Gate
-gateOf a b c d e f g h = record {
-  setup = a;
-  lines = b;
-  rooms = c;
-  global = d;
-  background = e;
-  server = f;
-  units = g;
-  charges = h;
-}
-
 -- gates are equal whose parts are
 pub same-gate : {a a′ : Setup} {b b′ : List Line} {c c′ d d′ e e′ : List ℕ} {f f′ : Server} {g g′ : ℕ} {h h′ : List ℕ}
     → a ≡ a′ → b ≡ b′ → c ≡ c′ → d ≡ d′ → e ≡ e′ → f ≡ f′ → g ≡ g′ → h ≡ h′
-    → gateOf a b c d e f g h ≡ gateOf a′ b′ c′ d′ e′ f′ g′ h′
+    → gateOf a (queues b c d e (service f g)) h ≡ gateOf a′ (queues b′ c′ d′ e′ (service f′ g′)) h′
 same-gate p q r s t u v w = rw (p, q, r, s, t, u, v, w)
 
 -- a gate that shows a state is the shown one
 pub shows-is : (v : Setup) (s : State) (g : Gate) → Shows v s g → g ≡ shown v s
 unfolding shown
 shows-is v s g h =
-    same-gate (h .setup) (h .lines) (h .rooms) (h .global) (h .background)
-    (sym (show-server (g .server)) ∙ ap showServer (h .server)) (h .units) (h .charges)
+    let q = h .queues in
+    same-gate (h .setup) (q .lines .places) (q .rooms) (q .global .places) (q .background .places)
+    (sym (show-server (g .server)) ∙ ap showServer (q .service .server)) (q .service .units) (h .charges)
 
 fits-unpad : (n : ℕ) (l : List ℕ) → Fits n l → unpad (pad n l) ≡ l
 fits-unpad n l f = unpad-pad n l (no-unused l (λ x e. omega (arith, f .used x e))) (f .short)
+
+list-back : {n : ℕ} {l q : List ℕ} → ShowsList n l q → unpad q ≡ l
+list-back {n} {l} h = rw (h .places) (fits-unpad n l (h .fits))
 
 -- READING WHAT IS SHOWN
 
@@ -71,12 +64,12 @@ module _ (v : Setup) (s : State) (g : Gate) (h : Shows v s g) (w : Within s) whe
   line-back k =
       by-test (ltb k maxClusters)
       (λ e. rw (
-        h .lines,
+        h .queues .lines .places,
         table-at maxClusters (λ j. record { places = pad maxSize (s .lines j) }) k blankLine
             (ltb-true k maxClusters e),
-      ) (fits-unpad maxSize (s .lines k) (h .line-fits k)))
+      ) (fits-unpad maxSize (s .lines k) (h .queues .lines .fits k)))
       (λ e. rw (
-        h .lines,
+        h .queues .lines .places,
         table-past maxClusters (λ j. record { places = pad maxSize (s .lines j) }) k blankLine
             (ltb-false k maxClusters e),
       ) (sym (w .lines k (ltb-false k maxClusters e))))
@@ -98,7 +91,7 @@ module _ (v : Setup) (s : State) (g : Gate) (h : Shows v s g) (w : Within s) whe
       rw (
         e,
         h .setup,
-        h .rooms,
+        h .queues .rooms,
         table-at maxClusters (λ j. setOf maxClients (inK j)) k 0 (h .fine .homes c),
         member-setOf maxClients (inK k) c (ltb-true c maxClients e),
         eq-eqb k k refl,
@@ -109,9 +102,9 @@ module _ (v : Setup) (s : State) (g : Gate) (h : Shows v s g) (w : Within s) whe
   unfolding stateOf
   state-back =
       same (fun-ext line-back) (fun-ext room-back)
-      (rw (h .global) (fits-unpad maxClusters (s .global) (h .global-fits)))
-      (rw (h .background) (fits-unpad maxClients (s .background) (h .background-fits)))
-      (h .server) (h .units) (fun-ext charge-back)
+      (list-back (h .queues .global))
+      (list-back (h .queues .background))
+      (h .queues .service .server) (h .queues .service .units) (fun-ext charge-back)
     where
       same : {a a′ : ℕ → List ℕ} {b b′ : ℕ → Bool} {c c′ d d′ : List ℕ} {e e′ : rules.Server} {f f′ : ℕ} {x x′ : ℕ → ℕ}
           → a ≡ a′ → b ≡ b′ → c ≡ c′ → d ≡ d′ → e ≡ e′ → f ≡ f′ → x ≡ x′
@@ -150,6 +143,9 @@ laid-pad n q h = sym (rw (h .size) at (pad-unpad q (h .first)))
 
 laid-fits : (n : ℕ) (q : List ℕ) → Laid n q → Fits n (unpad q)
 laid-fits n q h = record { short = rw (h .size) at (unpad-fits q); used = h .known }
+
+laid-list : (n : ℕ) (q : List ℕ) → Laid n q → ShowsList n (unpad q) q
+laid-list n q h = record { places = laid-pad n q h; fits = laid-fits n q h }
 
 module _ (g : Gate) (h : LaidOut g) where
   lines-shown : g .lines ≡ showLines (stateOf g .lines)
@@ -193,17 +189,14 @@ module _ (g : Gate) (h : LaidOut g) where
       record {
         fine = h .fine;
         setup = refl;
-        lines = lines-shown;
-        rooms = rooms-shown;
-        global = laid-pad maxClusters (g .global) (h .global);
-        background = laid-pad maxClients (g .background) (h .background);
-        server = refl;
-        units = refl;
+        queues = record {
+          lines = record { places = lines-shown; fits = line-fits };
+          rooms = rooms-shown;
+          global = laid-list maxClusters (g .global) (h .global);
+          background = laid-list maxClients (g .background) (h .background);
+          service = record { server = refl; units = refl; fits = h .server };
+        };
         charges = list-table (g .charges) 0 ∙ ap (λ n. table n (λ (c : ℕ). getD (g .charges) c 0)) (h .charges);
-        line-fits = line-fits;
-        global-fits = laid-fits maxClusters (g .global) (h .global);
-        background-fits = laid-fits maxClients (g .background) (h .background);
-        server-fits = h .server;
       }
     where
       past : (k : ℕ) → maxClusters ≤ k → getD (g .lines) k blankLine ≡ blankLine

@@ -90,27 +90,37 @@ module _ (v : Setup) where
         record {
           fine = fine;
           setup = refl;
-          lines = refl;
-          rooms = refl;
-          global = refl;
-          background = refl;
-          server = server-back (s .server);
-          units = refl;
+          queues = record {
+            lines = record {
+              places = refl;
+              fits = λ k. record {
+                short = omega (arith, h .lines k .fits, fine .sizes k);
+                used = λ x e. known x (h .lines k .known x e);
+              };
+            };
+            rooms = refl;
+            global = record {
+              places = refl;
+              fits = record {
+                short = global-short;
+                used = λ x e. front-known x (sound-in-order (setupOf v) s h .ordered .global-front x e);
+              };
+            };
+            background = record {
+              places = refl;
+              fits = record {
+                short = distinct-below maxClients (s .background) (h .background .once)
+                    (λ x e. known x (h .background .known x e));
+                used = λ x e. known x (h .background .known x e);
+              };
+            };
+            service = record {
+              server = server-back (s .server);
+              units = refl;
+              fits = server-known (s .server) (h .server);
+            };
+          };
           charges = refl;
-          line-fits = λ k. record {
-            short = omega (arith, h .lines k .fits, fine .sizes k);
-            used = λ x e. known x (h .lines k .known x e);
-          };
-          global-fits = record {
-            short = global-short;
-            used = λ x e. front-known x (sound-in-order (setupOf v) s h .ordered .global-front x e);
-          };
-          background-fits = record {
-            short = distinct-below maxClients (s .background) (h .background .once)
-                (λ x e. known x (h .background .known x e));
-            used = λ x e. known x (h .background .known x e);
-          };
-          server-fits = server-known (s .server) (h .server);
         }
 
     pub sound-within : Within s

@@ -1,2 +1,3 @@
--- What the search for the highest in rank stands on, and laws of tests for the crates above.
+-- What the search for the highest in rank stands on, and the tests of the one in service.
 pub mod Ranks
+pub mod Service

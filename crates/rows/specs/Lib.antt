@@ -1,3 +1,4 @@
--- What the rows and ranks are promised in. Nothing is proved here.
+-- What the rows, the ranks and the server are read as. Nothing is proved here.
 pub mod Homes
 pub mod Ranks
+pub mod Service

@@ -2,16 +2,16 @@
 -- Assumes nothing.
 use mathlib.Core.Path.{_≡_, sym}
 use native.Mathlib.Omega.{arith}
-use lib.ListN.{length, List·getD-eq-default}
+use lib.ListN.{List·getD-eq-default}
 use borrow.Author.Needs.{needs}
 use Rattle.rows.proofs.cluster_of.Statement.{statement}
 use Rattle.rows.proofs.cluster_of.Tie as tie
 
 returns : tie.Need-returns
-returns c =
+returns c = 
     let a = c .before .args in
-    let n : length (a .t1 .homes) ≡ 64 = search needs in
-    sym (List·getD-eq-default (a .t1 .homes) 0 (omega arith))
+    let n = c .before .pre in
+    sym (List·getD-eq-default (a .homes .now) 0 (omega (arith, n)))
 
 element-copy-out-wide : tie.Need-element-copy-out-wide
 element-copy-out-wide c = search needs

@@ -7,17 +7,14 @@ use Rattle.rows.proofs.home.Tie as tie
 index-requires : tie.Need-index-requires
 index-requires c κs = search needs
 
-array-read-wide : tie.Need-array-read-wide
-array-read-wide c = search needs
-
-wide-requires : tie.Need-wide-requires
-wide-requires c κs = search needs
+cluster-of-requires : tie.Need-cluster-of-requires
+cluster-of-requires c κs = c .before .pre .1 .rows
 
 returns : tie.Need-returns
-returns c =
-    let a = c .before .before .before .pre in
-    let e = rw (c .before .index .ensures) at (c .wide .ensures) in
-    record { known = a .0; own = e; low = rw e (a .1 .homes _) }
+returns c = 
+    let a = c .before .before .pre in
+    let e = rw (c .before .index .ensures) at (c .cluster-of .ensures) in
+    record { known = a .0; own = e; low = rw e (a .1 .low _) }
 
 pub home-spec : {M : Type 1} → statement M
-home-spec = tie.close (tie.spec index-requires array-read-wide wide-requires returns)
+home-spec = tie.close (tie.spec index-requires cluster-of-requires returns)

@@ -1,10 +1,9 @@
--- `rows::better` meets its contract: c is not in the room, or the first there, or one of the two ranks higher.
+-- `rows::rank::better` meets its contract: c is not in the room, or the first there, or one of the two ranks higher.
 -- Assumes nothing.
 use borrow.Author.Needs.{needs}
 use borrow.Author.Tests.{eq-eqb, ne-eqb, not-false, not-true}
-use Rattle.rows.specs.Ranks.{rankBy}
-use Rattle.rows.proofs.better.Statement.{statement}
-use Rattle.rows.proofs.better.Tie as tie
+use Rattle.rows.proofs.rank.better.Statement.{statement}
+use Rattle.rows.proofs.rank.better.Tie as tie
 
 member-requires : tie.Need-member-requires
 member-requires c κs = search needs
@@ -13,29 +12,16 @@ returns : tie.Need-returns
 returns c = (rw (← c .before .member .ensures, not-true (c .before .member .result) (c .if1 .taken)), search needs)
 
 returns-2 : tie.Need-returns-2
-returns-2 c =
+returns-2 c = 
     let m = c .before .before .member in
     (rw (← m .ensures, not-false (m .result) (c .before .if1 .left), eq-eqb _ 64 (c .if2 .taken)), search needs)
-
-mul-outranks : tie.Need-mul-outranks
-mul-outranks c = search needs
-
-shared-slice-read-outranks : tie.Need-shared-slice-read-outranks
-shared-slice-read-outranks c = search needs
-
-mul-outranks-2 : tie.Need-mul-outranks-2
-mul-outranks-2 c = search needs
-
-shared-slice-read-outranks-2 : tie.Need-shared-slice-read-outranks-2
-shared-slice-read-outranks-2 c = search needs
 
 outranks-requires : tie.Need-outranks-requires
 outranks-requires c κs = search needs
 
 returns-3 : tie.Need-returns-3
-unfolding rankBy
-returns-3 c =
-    let d = c .before .before .before .before in
+returns-3 c = 
+    let d = c .before .before in
     let m = d .before .before .member in (
       rw (
         ← m .ensures,
@@ -48,9 +34,8 @@ returns-3 c =
     )
 
 returns-4 : tie.Need-returns-4
-unfolding rankBy
-returns-4 c =
-    let d = c .before .before .before .before in
+returns-4 c = 
+    let d = c .before .before in
     let m = d .before .before .member in (
       rw (
         ← m .ensures,
@@ -64,15 +49,4 @@ returns-4 c =
 
 pub better-spec : {M : Type 1} → statement M
 better-spec =
-    tie.close
-    (tie.spec
-    member-requires
-    returns
-    returns-2
-    mul-outranks
-    shared-slice-read-outranks
-    mul-outranks-2
-    shared-slice-read-outranks-2
-    outranks-requires
-    returns-3
-    returns-4)
+    tie.close (tie.spec member-requires returns returns-2 outranks-requires returns-3 returns-4)

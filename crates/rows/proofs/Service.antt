@@ -1,0 +1,47 @@
+-- The tests of the one in service, from who it is and as what.
+-- Assumes nothing.
+use Prim.Native.Nat.{ℕ}
+use mathlib.Core.Bool.{Bool, _&&_, false, not, true}
+use mathlib.Core.Path.{_≡_, refl}
+use lib.Dec.{eqb}
+use Rattle.rules.specs.Setup.{Setup}
+use Rattle.rules.specs.State.{Server, idle, front, best, spent, serves, isFront, isIdle, isSpent, blocks}
+use Rattle.rules.proofs.Tests.{clash}
+use Rattle.rows.specs.Service.{asFront, asSpent, servedBy}
+
+pub serves-is : (x : Server) (c : ℕ) → serves x c ≡ (not (isIdle x) && eqb (servedBy x) c)
+serves-is idle c = refl
+serves-is (front d) c = refl
+serves-is (best d) c = refl
+serves-is (spent d) c = refl
+
+pub front-is : (x : Server) (c : ℕ) → isFront x c ≡ (asFront x && eqb (servedBy x) c)
+front-is idle c = refl
+front-is (front d) c = refl
+front-is (best d) c = refl
+front-is (spent d) c = refl
+
+pub spent-is : (x : Server) (c : ℕ) → isSpent x c ≡ (asSpent x && eqb (servedBy x) c)
+spent-is idle c = refl
+spent-is (front d) c = refl
+spent-is (best d) c = refl
+spent-is (spent d) c = refl
+
+pub blocks-is : (u : Setup) (x : Server) (k : ℕ) → blocks u x k ≡ (asSpent x && eqb (u .cluster (servedBy x)) k)
+blocks-is u idle k = refl
+blocks-is u (front d) k = refl
+blocks-is u (best d) k = refl
+blocks-is u (spent d) k = refl
+
+-- as what it is
+pub as-front : (x : Server) → asFront x ≡ true → x ≡ front (servedBy x)
+as-front idle h = clash h refl
+as-front (front c) h = refl
+as-front (best c) h = clash h refl
+as-front (spent c) h = clash h refl
+
+pub as-spent : (x : Server) → asSpent x ≡ true → x ≡ spent (servedBy x)
+as-spent idle h = clash h refl
+as-spent (front c) h = clash h refl
+as-spent (best c) h = clash h refl
+as-spent (spent c) h = refl
