@@ -1,6 +1,6 @@
 -- A law for each part of the relation between queues and states: what stands there, and the part with another in it.
 -- Assumes nothing.
-use Prim.Native.Nat.{_<_, ℕ}
+use Prim.Native.Nat.{_<_, suc, ℕ}
 use mathlib.Core.Bool.{Bool, _&&_, and-true, and-false}
 use mathlib.Core.List.{List, [], _++_, _∷_}
 use mathlib.Core.Path.{_∙_, _≡_, ap, refl, sym}
@@ -15,9 +15,9 @@ use Rattle.rules.specs.State.{State, withBackground, withGlobal, withLine, with
 use Rattle.rules.proofs.Tests.{by-test, upd-at}
 use Rattle.sets.specs.Sets.{member, setOf}
 use Rattle.sets.proofs.Laws.{member-setOf, setOf-same, setOf-upd}
-use Rattle.places.specs.Places.{appendOf, pad, takeOutOf, usedOf}
+use Rattle.places.specs.Places.{appendOf, closeUpOf, pad, takeOutOf, usedOf}
 use Rattle.places.proofs.Pads.{has-pad, heads-pad}
-use Rattle.places.proofs.Queues.{append-pad, takeOut-pad, used-pad}
+use Rattle.places.proofs.Queues.{append-pad, close-first, takeOut-pad, used-pad}
 use Rattle.gate.specs.Parts.{putBackground, putGlobal, putLine, putRoom, putServer}
 use Rattle.gate.specs.Shown.{serverOf, setupOf, showRooms}
 use Rattle.gate.specs.Shows.{Fits, ServerFits, ShowsLines, ShowsList, ShowsQueues, ShowsService}
@@ -25,7 +25,7 @@ use Rattle.gate.specs.declared.Line.{Line}
 use Rattle.gate.specs.declared.Queues.{Queues}
 use Rattle.gate.specs.declared.Server.{Server}
 use Rattle.gate.specs.declared.Setup.{Setup}
-use Rattle.gate.proofs.Fits.{fits-remove, fits-snoc, fits-used}
+use Rattle.gate.proofs.Fits.{fits-remove, fits-snoc, fits-tail, fits-used}
 use Rattle.gate.proofs.Tables.{set-table, table-at, table-same}
 
 -- 255 is no client
@@ -66,6 +66,23 @@ module _ {n : ℕ} {l q : List ℕ} (h : ShowsList n l q) where
 
     pub heads-is : 0 < n → eqb (getD q 0 0) c ≡ heads c l
     heads-is some = rw (h .places) (heads-pad c (someone known) n l 0 some)
+
+-- the first place of an empty queue, and of others
+pub first-empty : (n : ℕ) {q : List ℕ} {x : ℕ} → ShowsList (suc n) [] q → x ≡ getD q 0 0 → x ≡ unusedPlace
+unfolding pad
+first-empty n h e = e ∙ rw (h .places)
+
+pub first-is : (n : ℕ) {y : ℕ} {l q : List ℕ} {x : ℕ} → ShowsList (suc n) (y ∷ l) q → x ≡ getD q 0 0 → x ≡ y
+unfolding pad
+first-is n h e = e ∙ rw (h .places)
+
+-- the first leaves
+pub closed-up : {n y : ℕ} {l q : List ℕ} → ShowsList n (y ∷ l) q → ShowsList n l (closeUpOf 0 q)
+closed-up {n} {y} {l} h =
+    record {
+      places = rw (h .places) (close-first y n l (omega (arith, h .fits .short)));
+      fits = fits-tail (h .fits);
+    }
 
 -- LINES
 

@@ -1,6 +1,4 @@
--- What the moves' proofs stand on: a law for each part of the relation, and one for each way that a move can go.
-pub mod Fits
-pub mod Parts
+-- What the moves' proofs stand on: a law for each way that a move can go.
 pub mod Refill
 pub mod Pick
 pub mod Queue

@@ -1,44 +1,41 @@
-// The moves that events are made of, on the gate by value: refill, pick, and a front that joins the global queue.
-// Each promises to leave the shown form of what the rules say, of whatever state the gate shows.
+// The moves that events are made of, on the queues by value: refill, pick, and a front that joins the global queue.
+// Each promises to leave the shown form of what the rules say, of whatever state the queues show.
 
 use gate::Cluster;
 use gate::Gate;
+use gate::Queues;
 use gate::Server;
+use gate::Service;
 ghost use mathlib.Core.Path.{_≡_};
-ghost use Prim.Native.Nat.{_<_};
+ghost use Prim.Native.Nat.{_≤_, _<_};
 ghost use lib.ListN.{length};
-ghost use Rattle.rules.specs.Limits.{maxClusters};
-ghost use Rattle.rules.specs.State.{State, isIdle, blocks};
+ghost use Rattle.rules.specs.Limits.{maxClusters, maxClients};
 ghost use Rattle.rules.specs.Rank.{outranks};
-ghost use Rattle.rules.specs.Queues.{refill, queue, pick};
-ghost use Rattle.gate.specs.declared.Setup as given;
-ghost use Rattle.gate.specs.Shown.{setupOf, serverOf};
-ghost use Rattle.gate.specs.Shows.{Fine, Shows};
-ghost use Rattle.moves.specs.Parts.{putServer};
+ghost use Rattle.rules.specs.Queues as rules;
+ghost use Rattle.gate.specs.Parts.{putServer};
+ghost use Rattle.gate.specs.Shows.{Leaves};
 
 // REFILL
 
 // Refill of a cluster: if its line has room and its waiting room isn't empty, the highest in rank moves to the line's
 // end.
-pub fn refilled(g: Gate, k: Cluster) -> Gate
-    requires { ⌜ (k .0 < maxClusters) × Fine (g .setup) ⌝ }
+pub fn refilled<'a>(q: Queues, sizes: &'a [u8; 8], priorities: &'a [u16; 64], clients: usize, k: Cluster) -> Queues
+    requires { ⌜ (k .0 < maxClusters) × (clients ≤ maxClients) ⌝ }
     ensures { λ r.
-        ⌜ (r .setup ≡ g .setup)
-        × ((v : given.Setup) (s : State) → Shows v s g
-        → Shows v (refill (setupOf v) (outranks (setupOf v) s) (k .0) s) r) ⌝ }
+        ⌜ Leaves (λ v s. (now (sizes .entry) ≡ v .sizes) × (now (priorities .entry) ≡ v .priorities)
+        × (clients ≡ v .clients)) (λ u s. rules.refill u (outranks u s) (k .0) s) q r ⌝ }
 {
     let i = k.0;
-    let setup = g.setup;
-    let line = g.lines[i];
-    let room = g.rooms[i];
-    if rows::size(setup, k) <= rows::used(line) {
-        return g;
+    let line = q.lines[i];
+    let room = q.rooms[i];
+    if rows::size(sizes, k) <= rows::used(line) {
+        return q;
     }
-    let c = rows::highest_in(setup, room);
+    let c = rows::highest_in(priorities, room, clients);
     if c == Gate::MAX_CLIENTS {
-        return g;
+        return q;
     }
-    let mut n = g;
+    let mut n = q;
     let more = rows::longer(line, rows::narrow(c));
     n.lines[i] = more;
     let rest = sets::without(room, c);
@@ -46,98 +43,67 @@ pub fn refilled(g: Gate, k: Cluster) -> Gate
     n
 }
 
-// THE SERVER
-
-pub fn is_idle(s: Server) -> bool
-    ensures { λ r. ⌜ r ≡ isIdle (serverOf s) ⌝ }
-{
-    match s {
-        Server::Idle => true,
-        Server::Front(_) => false,
-        Server::Best(_) => false,
-        Server::Spent(_) => false,
-    }
-}
-
-fn is_blocked(g: Gate, k: Cluster) -> bool
-    ensures { λ r.
-        ⌜ ((v : given.Setup) (s : State) → Shows v s g → r ≡ blocks (setupOf v) (s .server) (k .0)) ⌝ }
-{
-    let server = g.server;
-    rows::is_blocked(g.setup, server, k)
-}
+// PICK
 
 // Another one in service, with the units served.
-pub fn with_server(g: Gate, s: Server, units: u32) -> Gate
-    ensures { λ r. ⌜ r ≡ putServer s units g ⌝ }
+pub fn served(q: Queues, server: Server, units: u32) -> Queues
+    ensures { λ r. ⌜ r ≡ putServer server units q ⌝ }
 {
-    let setup = g.setup;
-    let lines = g.lines;
-    let rooms = g.rooms;
-    let global = g.global;
-    let background = g.background;
-    let charges = g.charges;
-    Gate {
-        setup: setup,
-        lines: lines,
-        rooms: rooms,
-        global: global,
-        background: background,
-        server: s,
+    let s = Service {
+        server: server,
         units: units,
-        charges: charges,
-    }
+    };
+    let mut n = q;
+    n.service = s;
+    n
 }
-
-// PICK
 
 // Pick: the first of the global queue enters service (it stays front of its line); if that queue is empty, the first
 // of the background queue; if both are empty, the server is idle. Units served become 0.
-pub fn picked(g: Gate) -> Gate
-    ensures { λ r.
-        ⌜ (r .setup ≡ g .setup) × ((v : given.Setup) (s : State) → Shows v s g → Shows v (pick s) r) ⌝ }
+pub fn picked(q: Queues) -> Queues
+    ensures { λ r. ⌜ Leaves (λ v s. Unit) (λ u s. rules.pick s) q r ⌝ }
 {
-    let mut q = g.global;
-    let x = q[0];
+    let mut n = q;
+    let mut fronts = q.global;
+    let x = fronts[0];
     if x != places::UNUSED {
-        places::close_up(&mut q, 0);
-        let mut n = g;
-        n.global = q;
-        return with_server(n, Server::Front(rows::client_in(x)), 0);
+        places::close_up(&mut fronts, 0);
+        n.global = fronts;
+        return served(n, Server::Front(rows::client_in(x)), 0);
     }
-    let mut b = g.background;
+    let mut b = q.background;
     let y = b[0];
     if y != places::UNUSED {
         places::close_up(&mut b, 0);
-        let mut n = g;
         n.background = b;
-        return with_server(n, Server::Best(rows::client_in(y)), 0);
+        return served(n, Server::Best(rows::client_in(y)), 0);
     }
-    with_server(g, Server::Idle, 0)
+    served(n, Server::Idle, 0)
 }
 
 // THE GLOBAL QUEUE
 
 // The front of a cluster joins the end of the global queue, unless the cluster is blocked.
-pub fn queued(g: Gate, k: Cluster) -> Gate
-    requires { ⌜ k .0 < maxClusters ⌝ }
+pub fn queued(q: Queues, homes: &[u8; 64], k: Cluster) -> Queues
+    requires { ⌜ (k .0 < maxClusters) × (length (now homes) ≡ maxClients) ⌝ }
     ensures { λ r.
-        ⌜ (r .setup ≡ g .setup)
-        × ((v : given.Setup) (s : State) → Shows v s g → length (s .global) < maxClusters
-        → Shows v (queue (setupOf v) (k .0) s) r) ⌝ }
+        ⌜ Leaves (λ v s. (now (homes .entry) ≡ v .homes) × (length (s .global) < maxClusters))
+        (λ u s. rules.queue u (k .0) s) q r ⌝ }
 {
-    if is_blocked(g, k) {
-        return g;
+    let y = q.service;
+    let server = y.server;
+    if rows::is_blocked(homes, server, k) {
+        return q;
     }
     let i = k.0;
-    let line = g.lines[i];
+    let line = q.lines[i];
     let x = rows::front(line);
     if x == places::UNUSED {
-        return g;
+        return q;
     }
-    let mut q = g.global;
-    places::append(&mut q, x);
-    let mut n = g;
-    n.global = q;
+    let mut fronts = q.global;
+    places::append(&mut fronts, x);
+    let mut n = q;
+    n.global = fronts;
     n
 }

@@ -1,6 +1,5 @@
 -- `moves::picked` meets its contract: the first of the global queue, or of the background queue, or nobody.
 -- Assumes nothing.
-use mathlib.Core.Path.{refl}
 use borrow.Author.Needs.{needs}
 use Rattle.moves.proofs.Pick.{pick-best, pick-front, pick-none}
 use Rattle.moves.proofs.picked.Statement.{statement}
@@ -18,16 +17,13 @@ close-up-requires c κs = search needs
 client-in-requires : tie.Need-client-in-requires
 client-in-requires c κs = search needs
 
-with-server-requires : tie.Need-with-server-requires
-with-server-requires c κs = search needs
+served-requires : tie.Need-served-requires
+served-requires c κs = search needs
 
 returns : tie.Need-returns
-returns c =
-    let q = c .before .before .before in (
-      rw (c .with-server .ensures),
-      λ v s h. rw (c .with-server .ensures, c .before .client-in .ensures, q .close-up .ensures)
-          (pick-front h refl (q .before .before .if1 .taken)),
-    )
+returns c = 
+    λ v s fine e h.
+    rw (c .served .ensures, c .before .client-in .ensures, c .before .before .before .close-up .ensures) (pick-front h (c .before .before .before .before .before .if1 .taken))
 
 array-read-y : tie.Need-array-read-y
 array-read-y c = search needs
@@ -41,26 +37,20 @@ close-up-requires-2 c κs = search needs
 client-in-requires-2 : tie.Need-client-in-requires-2
 client-in-requires-2 c κs = search needs
 
-with-server-requires-2 : tie.Need-with-server-requires-2
-with-server-requires-2 c κs = search needs
+served-requires-2 : tie.Need-served-requires-2
+served-requires-2 c κs = search needs
 
 returns-2 : tie.Need-returns-2
-returns-2 c =
-    let b = c .before .before .before in
-    let q = b .before .before .before .before in (
-      rw (c .with-server2 .ensures),
-      λ v s h. rw (c .with-server2 .ensures, c .before .client-in2 .ensures, b .close-up2 .ensures)
-          (pick-best h (q .if1 .left) refl (b .before .before .if2 .taken)),
-    )
+returns-2 c = 
+    λ v s fine e h.
+    rw (c .served2 .ensures, c .before .client-in2 .ensures, c .before .before .before .close-up2 .ensures)
+    (pick-best h (c .before .before .before .before .before .before .before .if1 .left) (c .before .before .before .before .before .if2 .taken))
 
-with-server-requires-3 : tie.Need-with-server-requires-3
-with-server-requires-3 c κs = search needs
+served-requires-3 : tie.Need-served-requires-3
+served-requires-3 c κs = search needs
 
 returns-3 : tie.Need-returns-3
-returns-3 c = (
-  rw (c .with-server3 .ensures),
-  λ v s h. rw (c .with-server3 .ensures) (pick-none h (c .before .before .before .if1 .left) (c .before .if2 .left)),
-)
+returns-3 c = λ v s fine e h. rw (c .served3 .ensures) (pick-none h (c .before .before .before .if1 .left) (c .before .if2 .left))
 
 pub picked-spec : {M : Type 1} → statement M
 picked-spec =
@@ -70,13 +60,13 @@ picked-spec =
     slice-aggregate-close-up
     close-up-requires
     client-in-requires
-    with-server-requires
+    served-requires
     returns
     array-read-y
     slice-aggregate-close-up-2
     close-up-requires-2
     client-in-requires-2
-    with-server-requires-2
+    served-requires-2
     returns-2
-    with-server-requires-3
+    served-requires-3
     returns-3)

@@ -1,6 +1,5 @@
 -- `moves::refilled` meets its contract: the line is full, or nobody is in the room, or the highest in rank moves.
 -- Assumes nothing.
-use mathlib.Core.Path.{refl}
 use native.Mathlib.Omega.{arith}
 use borrow.Author.Needs.{needs}
 use Rattle.moves.proofs.Refill.{refill-full, refill-moves, refill-none}
@@ -26,24 +25,20 @@ used-requires : tie.Need-used-requires
 used-requires c κs = search needs
 
 returns : tie.Need-returns
-returns c =
-    let a = c .before .before .before .before .before .before .args in (
-      refl,
-      λ v s h. refill-full h (a .k .0) (omega arith) _ (c .before .before .size .ensures) (c .before .used .ensures)
-          (c .if1 .taken),
-    )
+returns c = 
+    let k = c .before .before .before .before .before .args .k .0 in
+    λ v s fine e h.
+    refill-full fine h k (omega arith) _ (rw (e .0) at (c .before .before .size .ensures)) (c .before .used .ensures) (c .if1 .taken)
 
 highest-in-requires : tie.Need-highest-in-requires
 highest-in-requires c κs = search needs
 
 returns-2 : tie.Need-returns-2
-returns-2 c =
-    let d = c .before .before in
-    let a = d .before .before .before .before .before .before .args in (
-      refl,
-      λ v s h. refill-none h (a .k .0) (omega arith) _ (d .before .before .size .ensures) (d .before .used .ensures)
-          (d .if1 .left) _ (c .before .highest-in .ensures .0) (c .if2 .taken),
-    )
+returns-2 c = 
+    let k = c .before .before .before .before .before .before .before .args .k .0 in
+    λ v s fine e h.
+    refill-none fine h k (omega arith) _ (rw (e .0) at (c .before .before .before .before .size .ensures)) (c .before .before .before .used .ensures) (c .before .before .if1 .left) _
+    (rw (e .1, e .2) at (c .before .highest-in .ensures .0)) (c .if2 .taken)
 
 narrow-requires : tie.Need-narrow-requires
 narrow-requires c κs = search needs
@@ -67,15 +62,12 @@ element-write-n : tie.Need-element-write-n
 element-write-n c = search needs
 
 returns-3 : tie.Need-returns-3
-returns-3 c =
-    let b = c .before .before .before in
-    let d = b .before .before in
-    let a = d .before .before .before .before .before .before .args in (
-      refl,
-      λ v s h. rw (c .without .ensures, c .before .longer .ensures, c .before .before .narrow .ensures)
-          (refill-moves h (a .k .0) (omega arith) _ (d .before .before .size .ensures) (d .before .used .ensures)
-          (d .if1 .left) _ (b .before .highest-in .ensures .0) (b .if2 .left)),
-    )
+returns-3 c = 
+    let k = c .before .before .before .before .before .before .before .before .before .before .args .k .0 in
+    λ v s fine e h.
+    rw (c .without .ensures, c .before .longer .ensures, c .before .before .narrow .ensures)
+    (refill-moves fine h k (omega arith) _ (rw (e .0) at (c .before .before .before .before .before .before .before .size .ensures)) (c .before .before .before .before .before .before .used .ensures) (c .before .before .before .before .before .if1 .left) _
+    (rw (e .1, e .2) at (c .before .before .before .before .highest-in .ensures .0)) (c .before .before .before .if2 .left))
 
 pub refilled-spec : {M : Type 1} → statement M
 refilled-spec =

@@ -1,2 +1,0 @@
--- What the moves are promised in. Nothing is proved here.
-pub mod Parts
