@@ -1,72 +1,48 @@
--- Who is in a line, a room or a queue, as a gate shows it.
+-- Who is in a line, a room or a queue, as the queues show it.
 -- Assumes nothing.
-use Prim.Native.Nat.{_<_, ℕ}
-use mathlib.Core.Bool.{Bool, false, true, and-true}
-use mathlib.Core.Path.{_∙_, _≡_, ap, sym}
+use Prim.Native.Nat.{ℕ}
+use mathlib.Core.Bool.{_||_}
+use mathlib.Core.Path.{_≡_, ap, ap₂, subst, sym}
 use native.Mathlib.Omega.{arith}
 use lib.Dec.{eqb}
 use lib.ListN.{getD}
-use borrow.Author.Tests.{eq-eqb}
-use Rattle.rules.specs.Limits.{maxClients, maxSize, unusedPlace}
+use Rattle.rules.specs.Limits.{maxSize}
 use Rattle.rules.specs.Lists.{has, heads}
-use Rattle.rules.specs.Queues.{inRoom, waits}
-use Rattle.rules.specs.Setup.{realTime}
-use Rattle.rules.specs.State.{State}
+use Rattle.rules.specs.Queues.{waits}
+use Rattle.rules.specs.State.{State, serves}
+use Rattle.rules.specs.Step.{present}
 use Rattle.sets.specs.Sets.{member}
-use Rattle.sets.proofs.Laws.{member-setOf}
-use Rattle.places.proofs.Pads.{has-pad, heads-pad}
-use Rattle.gate.specs.Shown.{setupOf}
-use Rattle.gate.specs.Shows.{Shows}
-use Rattle.gate.specs.declared.Gate.{Gate}
+use Rattle.gate.specs.Shown.{serverOf, setupOf}
+use Rattle.gate.specs.Shows.{ShowsList, ShowsQueues}
 use Rattle.gate.specs.declared.Line.{Line}
+use Rattle.gate.specs.declared.Queues.{Queues}
 use Rattle.gate.specs.declared.Setup.{Setup}
+use Rattle.gate.proofs.Parts as parts
+use Rattle.gate.proofs.Parts.{has-is, heads-is, line-at}
 use Rattle.rows.specs.Homes.{Home}
-use Rattle.moves.proofs.Parts.{line-at, room-at}
+use Rattle.presence.specs.Presence.{presentIn, waitsIn}
 
--- 255 is no client
-pub someone : {c : ℕ} → c < maxClients → c ≡ unusedPlace → ⊥
-someone b e = omega arith
+-- k is c's own cluster
+module _ {v : Setup} {s : State} {q : Queues} (h : ShowsQueues v s q) {c k : ℕ} (home : Home (v .homes) c k) where
+  pub own-line : (d : Line) → ShowsList maxSize (s .lines (setupOf v .cluster c)) (getD (q .lines) k d .places)
+  own-line d =
+      subst (λ j. ShowsList maxSize (s .lines j) (getD (q .lines) k d .places)) (home .own)
+      (line-at (h .lines) k (home .low) d)
 
--- the kind that the code reads is the shown setup's
-pub kind-is : {v : Setup} {s : State} {g : Gate} (h : Shows v s g) (c : ℕ) {b : Bool}
-    → b ≡ realTime (setupOf (g .setup)) c → b ≡ realTime (setupOf v) c
-kind-is h c e = e ∙ ap (λ u. realTime (setupOf u) c) (h .setup)
+  pub room-has : (w : ℕ) → member (getD (q .rooms) k w) c ≡ s .room c
+  room-has w =
+      parts.room-has (setupOf v .cluster) (s .room) (h .rooms) (home .low) w (sym (home .own)) (home .known)
 
-module _ {v : Setup} {s : State} {g : Gate} (h : Shows v s g) where
-  pub behind-at : (c : ℕ) → c < maxClients → {b : Bool} → b ≡ has c (g .background) → b ≡ has c (s .background)
-  behind-at c known e =
-      e ∙ rw (h .background) (has-pad c (someone known) maxClients (s .background) (h .background-fits .short))
+  pub heads-at : (d : Line) → eqb (getD (getD (q .lines) k d .places) 0 0) c ≡ heads c (s .lines (setupOf v .cluster c))
+  heads-at d = heads-is (own-line d) (home .known) (omega arith)
 
-  -- k is c's own cluster
-  module _ {c k : ℕ} (home : Home (g .setup) c k) where
-    pub home-is : k ≡ setupOf v .cluster c
-    home-is = home .own ∙ ap (λ u. setupOf u .cluster c) (h .setup)
+  module _ (d : Line) (w : ℕ) where
+    pub waits-is : waitsIn (getD (q .lines) k d .places) (getD (q .rooms) k w) c ≡ waits (setupOf v) s c
+    waits-is = ap₂ _||_ (has-is (own-line d) (home .known)) (room-has w)
 
-    pub line-has : (d : Line) {b : Bool} → b ≡ has c (getD (g .lines) k d .places)
-        → b ≡ has c (s .lines (setupOf v .cluster c))
-    line-has d e =
-        e ∙ ap (has c) (line-at h k (home .low) d)
-        ∙ has-pad c (someone (home .known)) maxSize (s .lines k) (h .line-fits k .short)
-        ∙ ap (λ j. has c (s .lines j)) home-is
-
-    pub room-has : (d : ℕ) {b : Bool} → b ≡ member (getD (g .rooms) k d) c → b ≡ s .room c
-    room-has d e =
-        e ∙ ap (λ w. member w c) (room-at h k (home .low) d)
-        ∙ member-setOf maxClients (inRoom (setupOf v) s k) c (home .known)
-        ∙ rw (eq-eqb (setupOf v .cluster c) k (sym home-is)) (and-true (s .room c))
-
-    pub heads-at : (d : Line) {x : ℕ} → x ≡ getD (getD (g .lines) k d .places) 0 0
-        → eqb x c ≡ heads c (s .lines (setupOf v .cluster c))
-    heads-at d e =
-        ap (λ y. eqb y c) (e ∙ ap (λ q. getD q 0 0) (line-at h k (home .low) d))
-        ∙ heads-pad c (someone (home .known)) maxSize (s .lines k) 0 (omega arith)
-        ∙ ap (λ j. heads c (s .lines j)) home-is
-
-    -- c is in its line, or in its room
-    pub in-line : (d : Line) {b : Bool} → b ≡ has c (getD (g .lines) k d .places) → b ≡ true
-        → true ≡ waits (setupOf v) s c
-    in-line d e t = rw (← line-has d e, t)
-
-    pub in-room : (d : Line) (w : ℕ) {a b : Bool} → a ≡ has c (getD (g .lines) k d .places) → a ≡ false
-        → b ≡ member (getD (g .rooms) k w) c → b ≡ waits (setupOf v) s c
-    in-room d w e t f = rw (← line-has d e, t) (room-has w f)
+    pub present-is :
+      presentIn (getD (q .lines) k d .places) (getD (q .rooms) k w) (q .background) (serverOf (q .service .server)) c
+          ≡ present (setupOf v) s c
+    present-is =
+        ap₂ _||_ waits-is
+        (ap₂ _||_ (has-is (h .background) (home .known)) (ap (λ x. serves x c) (h .service .server)))

@@ -1,7 +1,6 @@
 -- `presence::present` meets its contract: c waits, or is in the background queue, or is in service.
 -- Assumes nothing.
 use borrow.Author.Needs.{needs}
-use Rattle.presence.proofs.Here.{behind-at}
 use Rattle.presence.proofs.present.Statement.{statement}
 use Rattle.presence.proofs.present.Tie as tie
 
@@ -9,10 +8,7 @@ waits-requires : tie.Need-waits-requires
 waits-requires c κs = search needs
 
 returns : tie.Need-returns
-returns c = λ v s h. rw (← c .before .waits .ensures v s h, c .if1 .taken)
-
-slice-aggregate-holds : tie.Need-slice-aggregate-holds
-slice-aggregate-holds c = search needs
+returns c = rw (← c .before .waits .ensures, c .if1 .taken)
 
 byte-requires : tie.Need-byte-requires
 byte-requires c κs = search needs
@@ -21,35 +17,19 @@ holds-requires : tie.Need-holds-requires
 holds-requires c κs = search needs
 
 returns-2 : tie.Need-returns-2
-returns-2 c =
-    let d = c .before .before .before .before .before in
-    let a = d .before .before in
-    λ v s h.
-    rw (
-      ← d .before .waits .ensures v s h,
-      d .if1 .left,
-      ← behind-at h (a .args .c .0) (a .pre .0)
-          (rw (c .before .before .byte .ensures) at (c .before .holds .ensures)),
-      c .if2 .taken,
-    )
+returns-2 c = 
+    rw (← c .before .before .before .before .before .waits .ensures, c .before .before .before .before .if1 .left, ← c .before .before .byte .ensures, ← c .before .holds .ensures, c .if2 .taken)
+
+index-requires : tie.Need-index-requires
+index-requires c κs = search needs
 
 serves-requires : tie.Need-serves-requires
 serves-requires c κs = search needs
 
 returns-3 : tie.Need-returns-3
-returns-3 c =
-    let e = c .before in
-    let d = e .before .before .before .before .before in
-    let a = d .before .before in
-    λ v s h.
-    rw (
-      ← d .before .waits .ensures v s h,
-      d .if1 .left,
-      ← behind-at h (a .args .c .0) (a .pre .0)
-          (rw (e .before .before .byte .ensures) at (e .before .holds .ensures)),
-      e .if2 .left,
-      ← h .server,
-    ) (c .serves .ensures)
+returns-3 c = 
+    rw (← c .before .before .before .before .before .before .before .waits .ensures, c .before .before .before .before .before .before .if1 .left, ← c .before .before .before .before .byte .ensures, ← c .before .before .before .holds .ensures, c .before .before .if2 .left)
+    (rw (c .before .index .ensures, ← c .before .before .before .before .byte .ensures) at (c .serves .ensures))
 
 pub present-spec : {M : Type 1} → statement M
 present-spec =
@@ -57,9 +37,9 @@ present-spec =
     (tie.spec
     waits-requires
     returns
-    slice-aggregate-holds
     byte-requires
     holds-requires
     returns-2
+    index-requires
     serves-requires
     returns-3)

@@ -1,0 +1,2 @@
+-- What the tests of presence say. Nothing is proved here.
+pub mod Presence
