@@ -10,13 +10,18 @@ use Rattle.rules.specs.Lists.{heads, remove}
 use Rattle.rules.specs.Setup as rules
 use Rattle.rules.specs.Setup.{realTime}
 use Rattle.rules.specs.State.{State, Server, idle, front, best, spent}
-use Rattle.rules.specs.Events.{arrive, behind}
+use Rattle.rules.specs.Rank.{outranks}
+use Rattle.rules.specs.Events.{arrive, behind, ended}
 use Rattle.gate.specs.declared.Setup.{Setup}
 use Rattle.gate.specs.Shown.{setupOf}
 
 -- Invoke c, up to the pick: a real-time client joins line or room, a best-effort client the background queue.
 abbrev pub enters : rules.Setup → ℕ → State → State
 enters u c s = cond (realTime u c) (arrive u c (s .lines (u .cluster c)) s) (behind c s)
+
+-- the served request ends, whoever is in service
+abbrev pub ends : rules.Setup → State → State
+ends u s = ended u (outranks u s) (s .server) s
 
 -- What an invoke finds: its cluster has a size, an empty line leaves a turn free, and so does the background queue.
 pub record Ready (v : Setup) (s : State) (c : ℕ) : Type 0 where

@@ -1,93 +1,88 @@
-// What an accepted invoke, reply and abort do to the gate.
+// What an accepted invoke, reply and abort do to the queues.
 
 use gate::Client;
-use gate::Gate;
-use gate::Line;
+use gate::Queues;
 use gate::Server;
 ghost use mathlib.Core.Path.{_≡_};
-ghost use Prim.Native.Nat.{_<_};
+ghost use Prim.Native.Nat.{_≤_, _<_};
 ghost use lib.ListN.{length};
 ghost use Rattle.rules.specs.Limits.{maxClusters, maxClients};
 ghost use Rattle.rules.specs.Lists.{remove};
-ghost use Rattle.rules.specs.State.{State, front, spent};
+ghost use Rattle.rules.specs.State.{front, spent};
 ghost use Rattle.rules.specs.Rank.{outranks};
 ghost use Rattle.rules.specs.Queues.{queue};
-ghost use Rattle.rules.specs.Events.{behind, arrive, invoked, gone, ended, replied, unqueue, aborted};
+ghost use Rattle.rules.specs.Events as rules;
 ghost use Rattle.places.specs.Places.{takeOutOf};
-ghost use Rattle.gate.specs.declared.Setup as given;
 ghost use Rattle.gate.specs.declared.Server.the-variants.{Idle};
-ghost use Rattle.gate.specs.Shown.{setupOf, serverOf};
-ghost use Rattle.gate.specs.Shows.{Fine, ServerFits, Shows};
-ghost use Rattle.moves.specs.Parts.{putGlobal, putServer};
-ghost use Rattle.effects.specs.Finds.{enters, Ready, Turn, Yields};
+ghost use Rattle.gate.specs.Parts.{putGlobal, putServer};
+ghost use Rattle.gate.specs.Shown.{serverOf};
+ghost use Rattle.gate.specs.Shows.{Homes, Lent, ServerFits, Leaves};
+ghost use Rattle.effects.specs.Finds.{enters, ends, Ready, Turn, Yields};
 
 // INVOKE
 
-// Real-time: its charge becomes 0; it joins the end of its line if there is room, else the waiting room. If it became
-// front, it joins the global queue, unless its cluster is blocked.
-fn arrived(g: Gate, c: Client) -> Gate
-    requires { ⌜ (c .0 < maxClients) × Fine (g .setup) ⌝ }
+// Real-time: it joins the end of its line if there is room, else the waiting room. If it became front, it joins the
+// global queue, unless its cluster is blocked.
+fn arrived<'a>(q: Queues, homes: &'a [u8; 64], sizes: &'a [u8; 8], c: Client) -> Queues
+    requires { ⌜ (c .0 < maxClients) × Homes (now homes) ⌝ }
     ensures { λ r.
-        ⌜ ((v : given.Setup) (s : State) → Shows v s g → Ready v s (c .0)
-        → Shows v (arrive (setupOf v) (c .0) (s .lines (setupOf v .cluster (c .0))) s) r) ⌝ }
+        ⌜ Leaves (λ v s. (now (homes .entry) ≡ v .homes) × (now (sizes .entry) ≡ v .sizes) × Ready v s (c .0))
+        (λ u s. rules.arrive u (c .0) (s .lines (u .cluster (c .0))) s) q r ⌝ }
 {
-    let k = rows::home(g.setup, c);
+    let k = rows::home(homes, c);
     let i = k.0;
-    let at = rows::index(c);
-    let line = g.lines[i];
+    let line = q.lines[i];
     let used = rows::used(line);
-    let mut n = g;
-    n.charges[at] = 0;
-    if used < rows::size(g.setup, k) {
+    let mut n = q;
+    if used < rows::size(sizes, k) {
         let more = rows::longer(line, rows::byte(c));
         n.lines[i] = more;
         if used == 0 {
-            return moves::queued(n, k);
+            return moves::queued(n, homes, k);
         }
         return n;
     }
-    let room = g.rooms[i];
-    let more = sets::with(room, at);
+    let more = sets::with(q.rooms[i], rows::index(c));
     n.rooms[i] = more;
     n
 }
 
 // Best-effort: joins the background queue.
-fn behind(g: Gate, c: Client) -> Gate
+fn behind(q: Queues, c: Client) -> Queues
     requires { ⌜ c .0 < maxClients ⌝ }
-    ensures { λ r.
-        ⌜ ((v : given.Setup) (s : State) → Shows v s g → Ready v s (c .0) → Shows v (behind (c .0) s) r) ⌝ }
+    ensures { λ r. ⌜ Leaves (λ v s. Ready v s (c .0)) (λ u s. rules.behind (c .0) s) q r ⌝ }
 {
-    let mut q = g.background;
-    places::append(&mut q, rows::byte(c));
-    let mut n = g;
-    n.background = q;
+    let mut b = q.background;
+    places::append(&mut b, rows::byte(c));
+    let mut n = q;
+    n.background = b;
     n
 }
 
 // The one or the other by its kind.
-fn entered(g: Gate, c: Client) -> Gate
-    requires { ⌜ (c .0 < maxClients) × Fine (g .setup) ⌝ }
+fn entered<'a>(q: Queues, kinds: &'a [u8; 64], homes: &'a [u8; 64], sizes: &'a [u8; 8], c: Client) -> Queues
+    requires { ⌜ (c .0 < maxClients) × Homes (now homes) ⌝ }
     ensures { λ r.
-        ⌜ ((v : given.Setup) (s : State) → Shows v s g → Ready v s (c .0)
-        → Shows v (enters (setupOf v) (c .0) s) r) ⌝ }
+        ⌜ Leaves (λ v s. (now (kinds .entry) ≡ v .kinds) × (now (homes .entry) ≡ v .homes)
+        × (now (sizes .entry) ≡ v .sizes) × Ready v s (c .0)) (λ u s. enters u (c .0) s) q r ⌝ }
 {
-    if rows::is_real_time(g.setup, c) {
-        return arrived(g, c);
+    if rows::is_real_time(kinds, c) {
+        return arrived(q, homes, sizes, c);
     }
-    behind(g, c)
+    behind(q, c)
 }
 
 // Invoke c. Last, if the server is idle, pick.
-pub fn invoked(g: Gate, c: Client) -> Gate
-    requires { ⌜ (c .0 < maxClients) × Fine (g .setup) ⌝ }
+pub fn invoked<'a>(q: Queues, kinds: &'a [u8; 64], homes: &'a [u8; 64], sizes: &'a [u8; 8], c: Client) -> Queues
+    requires { ⌜ (c .0 < maxClients) × Homes (now homes) ⌝ }
     ensures { λ r.
-        ⌜ ((v : given.Setup) (s : State) → Shows v s g → Ready v s (c .0)
-        → Shows v (invoked (setupOf v) (c .0) s) r) ⌝ }
+        ⌜ Leaves (λ v s. (now (kinds .entry) ≡ v .kinds) × (now (homes .entry) ≡ v .homes)
+        × (now (sizes .entry) ≡ v .sizes) × Ready v s (c .0)) (λ u s. rules.invoked u (c .0) s) q r ⌝ }
 {
-    let server = g.server;
-    let n = entered(g, c);
-    if moves::is_idle(server) {
+    let y = q.service;
+    let server = y.server;
+    let n = entered(q, kinds, homes, sizes, c);
+    if rows::is_idle(server) {
         return moves::picked(n);
     }
     n
@@ -95,136 +90,178 @@ pub fn invoked(g: Gate, c: Client) -> Gate
 
 // LEAVING
 
-fn shorter(l: Line, x: u8) -> Line
-    ensures { λ r. ⌜ r ≡ record { places = takeOutOf x (l .places) } ⌝ }
-{
-    let mut q = l.places;
-    places::take_out(&mut q, x);
-    Line { places: q }
-}
-
 // c leaves its line, then refill.
-fn gone(g: Gate, c: Client) -> Gate
-    requires { ⌜ (c .0 < maxClients) × Fine (g .setup) ⌝ }
+fn gone<'a>(
+    q: Queues,
+    homes: &'a [u8; 64],
+    sizes: &'a [u8; 8],
+    priorities: &'a [u16; 64],
+    clients: usize,
+    c: Client,
+) -> Queues
+    requires { ⌜ (c .0 < maxClients) × Homes (now homes) × (clients ≤ maxClients) ⌝ }
     ensures { λ r.
-        ⌜ (r .setup ≡ g .setup)
-        × ((v : given.Setup) (s : State) → Shows v s g
-        → Shows v (gone (setupOf v) (outranks (setupOf v) s) (c .0) s) r) ⌝ }
+        ⌜ Leaves (λ v s. (now (homes .entry) ≡ v .homes) × Lent v (now (sizes .entry)) (now (priorities .entry)) clients)
+        (λ u s. rules.gone u (outranks u s) (c .0) s) q r ⌝ }
 {
-    let k = rows::home(g.setup, c);
+    let k = rows::home(homes, c);
     let i = k.0;
-    let line = g.lines[i];
-    let rest = shorter(line, rows::byte(c));
-    let mut n = g;
+    let line = q.lines[i];
+    let rest = rows::shorter(line, rows::byte(c));
+    let mut n = q;
     n.lines[i] = rest;
-    moves::refilled(n, k)
+    moves::refilled(n, sizes, priorities, clients, k)
 }
 
 // REPLY
 
 // The request in service has ended, and nobody is picked yet.
-fn freed(g: Gate) -> Gate
-    ensures { λ r. ⌜ r ≡ putServer Idle (g .units) g ⌝ }
+fn freed(q: Queues) -> Queues
+    ensures { λ r. ⌜ r ≡ putServer Idle (q .service .units) q ⌝ }
 {
-    moves::with_server(g, Server::Idle, g.units)
+    let y = q.service;
+    moves::served(q, Server::Idle, y.units)
 }
 
 // The request of a front ends: it leaves its line, then refill, and the next front joins the global queue.
-fn front_ended(g: Gate, c: Client) -> Gate
-    requires { ⌜ (c .0 < maxClients) × Fine (g .setup) ⌝ }
+fn front_ended<'a>(
+    q: Queues,
+    homes: &'a [u8; 64],
+    sizes: &'a [u8; 8],
+    priorities: &'a [u16; 64],
+    clients: usize,
+    c: Client,
+) -> Queues
+    requires { ⌜ (c .0 < maxClients) × Homes (now homes) × (clients ≤ maxClients) ⌝ }
     ensures { λ r.
-        ⌜ ((v : given.Setup) (s : State) → Shows v s g → length (s .global) < maxClusters
-        → Shows v (ended (setupOf v) (outranks (setupOf v) s) (front (c .0)) s) r) ⌝ }
+        ⌜ Leaves (λ v s. (now (homes .entry) ≡ v .homes) × Lent v (now (sizes .entry)) (now (priorities .entry)) clients
+        × (length (s .global) < maxClusters)) (λ u s. rules.ended u (outranks u s) (front (c .0)) s) q r ⌝ }
 {
-    let k = rows::home(g.setup, c);
-    moves::queued(gone(freed(g), c), k)
+    let k = rows::home(homes, c);
+    moves::queued(gone(freed(q), homes, sizes, priorities, clients, c), homes, k)
 }
 
 // The request of a spent client ends: its cluster stops being blocked, and the front there joins the global queue.
-fn spent_ended(g: Gate, c: Client) -> Gate
-    requires { ⌜ (c .0 < maxClients) × Fine (g .setup) ⌝ }
+fn spent_ended(q: Queues, homes: &[u8; 64], c: Client) -> Queues
+    requires { ⌜ (c .0 < maxClients) × Homes (now homes) ⌝ }
     ensures { λ r.
-        ⌜ ((v : given.Setup) (s : State) → Shows v s g → length (s .global) < maxClusters
-        → Shows v (ended (setupOf v) (outranks (setupOf v) s) (spent (c .0)) s) r) ⌝ }
+        ⌜ Leaves (λ v s. (now (homes .entry) ≡ v .homes) × (length (s .global) < maxClusters))
+        (λ u s. rules.ended u (outranks u s) (spent (c .0)) s) q r ⌝ }
 {
-    let k = rows::home(g.setup, c);
-    let free = freed(g);
-    moves::queued(free, k)
+    let k = rows::home(homes, c);
+    let free = freed(q);
+    moves::queued(free, homes, k)
 }
 
-// Reply: the served request ends, then pick.
-pub fn replied(g: Gate) -> Gate
-    requires { ⌜ Fine (g .setup) × ServerFits (serverOf (g .server)) ⌝ }
+// The served request ends.
+fn ended<'a>(
+    q: Queues,
+    homes: &'a [u8; 64],
+    sizes: &'a [u8; 8],
+    priorities: &'a [u16; 64],
+    clients: usize,
+) -> Queues
+    requires { ⌜ ServerFits (serverOf (q .service .server)) × Homes (now homes) × (clients ≤ maxClients) ⌝ }
     ensures { λ r.
-        ⌜ ((v : given.Setup) (s : State) → Shows v s g → Yields (s .server) (s .global)
-        → Shows v (replied (setupOf v) (outranks (setupOf v) s) s) r) ⌝ }
+        ⌜ Leaves (λ v s. (now (homes .entry) ≡ v .homes) × Lent v (now (sizes .entry)) (now (priorities .entry)) clients
+        × Yields (s .server) (s .global)) (λ u s. ends u s) q r ⌝ }
 {
-    let server = g.server;
-    match server {
-        Server::Idle => moves::picked(g),
-        Server::Front(c) => {
-            let next = front_ended(g, c);
-            moves::picked(next)
-        }
-        Server::Best(_) => moves::picked(freed(g)),
-        Server::Spent(c) => {
-            let unblocked = spent_ended(g, c);
-            moves::picked(unblocked)
-        }
+    let y = q.service;
+    let server = y.server;
+    let c = rows::served(server);
+    if rows::as_front(server) {
+        return front_ended(q, homes, sizes, priorities, clients, c);
     }
+    if rows::as_spent(server) {
+        return spent_ended(q, homes, c);
+    }
+    freed(q)
+}
+
+// Reply: that, then pick.
+pub fn replied<'a>(
+    q: Queues,
+    homes: &'a [u8; 64],
+    sizes: &'a [u8; 8],
+    priorities: &'a [u16; 64],
+    clients: usize,
+) -> Queues
+    requires { ⌜ ServerFits (serverOf (q .service .server)) × Homes (now homes) × (clients ≤ maxClients) ⌝ }
+    ensures { λ r.
+        ⌜ Leaves (λ v s. (now (homes .entry) ≡ v .homes) × Lent v (now (sizes .entry)) (now (priorities .entry)) clients
+        × Yields (s .server) (s .global)) (λ u s. rules.replied u (outranks u s) s) q r ⌝ }
+{
+    let next = ended(q, homes, sizes, priorities, clients);
+    moves::picked(next)
 }
 
 // ABORT
 
 // c leaves the global queue, and the others keep their order.
-fn unqueued(g: Gate, c: Client) -> Gate
+fn unqueued(q: Queues, c: Client) -> Queues
     requires { ⌜ c .0 < maxClients ⌝ }
-    ensures { λ r. ⌜ r ≡ putGlobal (takeOutOf (c .0) (g .global)) g ⌝ }
+    ensures { λ r. ⌜ r ≡ putGlobal (takeOutOf (c .0) (q .global)) q ⌝ }
 {
-    let mut q = g.global;
-    places::take_out(&mut q, rows::byte(c));
-    let mut n = g;
-    n.global = q;
+    let mut fronts = q.global;
+    places::take_out(&mut fronts, rows::byte(c));
+    let mut n = q;
+    n.global = fronts;
     n
 }
 
 // A front that is not in service leaves line and global queue, and the new front joins the end of that queue.
-fn front_aborted(g: Gate, c: Client) -> Gate
-    requires { ⌜ (c .0 < maxClients) × Fine (g .setup) ⌝ }
+fn front_aborted<'a>(
+    q: Queues,
+    homes: &'a [u8; 64],
+    sizes: &'a [u8; 8],
+    priorities: &'a [u16; 64],
+    clients: usize,
+    c: Client,
+) -> Queues
+    requires { ⌜ (c .0 < maxClients) × Homes (now homes) × (clients ≤ maxClients) ⌝ }
     ensures { λ r.
-        ⌜ ((v : given.Setup) (s : State) → Shows v s g → length (remove (c .0) (s .global)) < maxClusters
-        → Shows v (queue (setupOf v) (setupOf v .cluster (c .0)) (gone (setupOf v) (outranks (setupOf v) s) (c .0)
-        (unqueue (c .0) s))) r) ⌝ }
+        ⌜ Leaves (λ v s. (now (homes .entry) ≡ v .homes) × Lent v (now (sizes .entry)) (now (priorities .entry)) clients
+        × (length (remove (c .0) (s .global)) < maxClusters))
+        (λ u s. queue u (u .cluster (c .0)) (rules.gone u (outranks u s) (c .0) (rules.unqueue (c .0) s))) q r ⌝ }
 {
-    let k = rows::home(g.setup, c);
-    moves::queued(gone(unqueued(g, c), c), k)
+    let k = rows::home(homes, c);
+    moves::queued(gone(unqueued(q, c), homes, sizes, priorities, clients, c), homes, k)
 }
 
 // Abort c. In the waiting room: leaves. Front in service: leaves the line, and stays in service as spent. Front and
 // not in service: leaves line and global queue. In the line but not front: leaves.
-pub fn aborted(g: Gate, c: Client) -> Gate
-    requires { ⌜ (c .0 < maxClients) × Fine (g .setup) ⌝ }
+pub fn aborted<'a>(
+    q: Queues,
+    homes: &'a [u8; 64],
+    sizes: &'a [u8; 8],
+    priorities: &'a [u16; 64],
+    clients: usize,
+    c: Client,
+) -> Queues
+    requires { ⌜ (c .0 < maxClients) × Homes (now homes) × (clients ≤ maxClients) ⌝ }
     ensures { λ r.
-        ⌜ ((v : given.Setup) (s : State) → Shows v s g → Turn v s (c .0)
-        → Shows v (aborted (setupOf v) (outranks (setupOf v) s) (c .0) s) r) ⌝ }
+        ⌜ Leaves (λ v s. (now (homes .entry) ≡ v .homes) × Lent v (now (sizes .entry)) (now (priorities .entry)) clients
+        × Turn v s (c .0)) (λ u s. rules.aborted u (outranks u s) (c .0) s) q r ⌝ }
 {
-    let k = rows::home(g.setup, c);
+    let k = rows::home(homes, c);
     let i = k.0;
     let at = rows::index(c);
-    let room = g.rooms[i];
+    let room = q.rooms[i];
     if sets::member(room, at) {
+        let mut n = q;
         let rest = sets::without(room, at);
-        let mut n = g;
         n.rooms[i] = rest;
         return n;
     }
-    let server = g.server;
+    let y = q.service;
+    let server = y.server;
     if rows::is_front(server, at) {
-        return gone(moves::with_server(g, Server::Spent(c), g.units), c);
+        let n = moves::served(q, Server::Spent(c), y.units);
+        return gone(n, homes, sizes, priorities, clients, c);
     }
-    let line = g.lines[i];
+    let line = q.lines[i];
     if rows::front(line) == rows::byte(c) {
-        return front_aborted(g, c);
+        return front_aborted(q, homes, sizes, priorities, clients, c);
     }
-    gone(g, c)
+    gone(q, homes, sizes, priorities, clients, c)
 }

@@ -11,7 +11,7 @@ use borrow.Author.Tests.{eq-eqb, eqb-false, eqb-true, ne-eqb}
 use Rattle.rules.specs.Limits.{maxClients, maxClusters, maxSize, unusedPlace}
 use Rattle.rules.specs.Lists.{has, heads, remove, upd}
 use Rattle.rules.specs.State as rules
-use Rattle.rules.specs.State.{State, withBackground, withGlobal, withLine, withRoom, withServer}
+use Rattle.rules.specs.State.{State, withBackground, withCharge, withGlobal, withLine, withRoom, withServer}
 use Rattle.rules.proofs.Tests.{by-test, upd-at}
 use Rattle.sets.specs.Sets.{member, setOf}
 use Rattle.sets.proofs.Laws.{member-setOf, setOf-same, setOf-upd}
@@ -166,3 +166,7 @@ module _ {v : Setup} {s : State} {q : Queues} (h : ShowsQueues v s q) where
       → ShowsQueues v (withServer x n s) (putServer y n q)
   shows-server e f =
       parts (h .lines) (h .rooms) (h .global) (h .background) (record { server = e; units = refl; fits = f })
+
+  -- the queues show nothing of the charges
+  pub shows-charge : (f : ℕ → ℕ) → ShowsQueues v (withCharge f s) q
+  shows-charge f = parts (h .lines) (h .rooms) (h .global) (h .background) (h .service)

@@ -32,6 +32,12 @@ pub record Fine (v : Setup) : Type 0 where
   pub sizes : (k : ℕ) → setupOf v .size k ≤ maxSize
   pub homes : (c : ℕ) → setupOf v .cluster c < maxClusters
 
+-- what a refill reads of the table is v's
+pub record Lent (v : Setup) (ms ps : List ℕ) (n : ℕ) : Type 0 where
+  pub sizes : ms ≡ v .sizes
+  pub priorities : ps ≡ v .priorities
+  pub clients : n ≡ v .clients
+
 -- THE QUEUES
 
 -- a list of clients that n places can hold

@@ -13,7 +13,7 @@ ghost use Rattle.rules.specs.Limits.{maxClusters, maxClients};
 ghost use Rattle.rules.specs.Rank.{outranks};
 ghost use Rattle.rules.specs.Queues as rules;
 ghost use Rattle.gate.specs.Parts.{putServer};
-ghost use Rattle.gate.specs.Shows.{Leaves};
+ghost use Rattle.gate.specs.Shows.{Lent, Leaves};
 
 // REFILL
 
@@ -22,8 +22,8 @@ ghost use Rattle.gate.specs.Shows.{Leaves};
 pub fn refilled<'a>(q: Queues, sizes: &'a [u8; 8], priorities: &'a [u16; 64], clients: usize, k: Cluster) -> Queues
     requires { ⌜ (k .0 < maxClusters) × (clients ≤ maxClients) ⌝ }
     ensures { λ r.
-        ⌜ Leaves (λ v s. (now (sizes .entry) ≡ v .sizes) × (now (priorities .entry) ≡ v .priorities)
-        × (clients ≡ v .clients)) (λ u s. rules.refill u (outranks u s) (k .0) s) q r ⌝ }
+        ⌜ Leaves (λ v s. Lent v (now (sizes .entry)) (now (priorities .entry)) clients)
+        (λ u s. rules.refill u (outranks u s) (k .0) s) q r ⌝ }
 {
     let i = k.0;
     let line = q.lines[i];

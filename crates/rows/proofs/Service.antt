@@ -1,12 +1,15 @@
 -- The tests of the one in service, from who it is and as what.
 -- Assumes nothing.
-use Prim.Native.Nat.{ℕ}
+use Prim.Native.Nat.{ℕ, _<_}
 use mathlib.Core.Bool.{Bool, _&&_, false, not, true}
 use mathlib.Core.Path.{_≡_, refl}
+use native.Mathlib.Omega.{arith}
 use lib.Dec.{eqb}
+use Rattle.rules.specs.Limits.{maxClients}
 use Rattle.rules.specs.Setup.{Setup}
 use Rattle.rules.specs.State.{Server, idle, front, best, spent, serves, isFront, isIdle, isSpent, blocks}
 use Rattle.rules.proofs.Tests.{clash}
+use Rattle.gate.specs.Shows.{ServerFits}
 use Rattle.rows.specs.Service.{asFront, asSpent, servedBy}
 
 pub serves-is : (x : Server) (c : ℕ) → serves x c ≡ (not (isIdle x) && eqb (servedBy x) c)
@@ -45,3 +48,10 @@ as-spent idle h = clash h refl
 as-spent (front c) h = clash h refl
 as-spent (best c) h = clash h refl
 as-spent (spent c) h = refl
+
+-- the one in service is a client; nobody is client 0
+pub served-fits : (x : Server) → ServerFits x → servedBy x < maxClients
+served-fits idle h = omega arith
+served-fits (front c) h = h
+served-fits (best c) h = h
+served-fits (spent c) h = h

@@ -1,7 +1,7 @@
 -- `effects::behind` meets its contract.
 -- Assumes nothing.
 use borrow.Author.Needs.{needs}
-use Rattle.effects.proofs.Arriving.{shows-behind}
+use Rattle.gate.proofs.Parts.{appended, shows-background}
 use Rattle.effects.proofs.behind.Statement.{statement}
 use Rattle.effects.proofs.behind.Tie as tie
 
@@ -15,11 +15,11 @@ append-requires : tie.Need-append-requires
 append-requires c κs = search needs
 
 returns : tie.Need-returns
-returns c =
+returns c = 
     let a = c .before .before .before .before .before in
-    λ v s h ready.
+    λ v s fine e h.
     rw (c .before .append .ensures, c .before .before .byte .ensures)
-    (shows-behind h (a .args .c .0) (a .pre) (ready .last))
+    (shows-background h (appended (h .background) (a .args .c .0) (e .last) (a .pre)))
 
 pub behind-spec : {M : Type 1} → statement M
 behind-spec = tie.close (tie.spec slice-aggregate-append byte-requires append-requires returns)

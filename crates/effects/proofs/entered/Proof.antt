@@ -1,7 +1,6 @@
--- `effects::entered` meets its contract.
+-- `effects::entered` meets its contract: by the kind.
 -- Assumes nothing.
 use borrow.Author.Needs.{needs}
-use Rattle.presence.proofs.Here.{kind-is}
 use Rattle.effects.proofs.entered.Statement.{statement}
 use Rattle.effects.proofs.entered.Tie as tie
 
@@ -12,17 +11,18 @@ arrived-requires : tie.Need-arrived-requires
 arrived-requires c κs = search needs
 
 returns : tie.Need-returns
-returns c =
-    let kind = c .before .before .is-real-time .ensures in
-    λ v s h ready. rw (← kind-is h _ kind, c .before .if1 .taken) (c .arrived .ensures v s h ready)
+returns c = 
+    λ v s fine e h.
+    rw (← rw (e .0) at (c .before .before .is-real-time .ensures), c .before .if1 .taken)
+    (c .arrived .ensures v s fine (e .1, e .2, e .3) h)
 
 behind-requires : tie.Need-behind-requires
 behind-requires c κs = search needs
 
 returns-2 : tie.Need-returns-2
-returns-2 c =
-    let kind = c .before .before .is-real-time .ensures in
-    λ v s h ready. rw (← kind-is h _ kind, c .before .if1 .left) (c .behind .ensures v s h ready)
+returns-2 c = 
+    λ v s fine e h.
+    rw (← rw (e .0) at (c .before .before .is-real-time .ensures), c .before .if1 .left) (c .behind .ensures v s fine (e .3) h)
 
 pub entered-spec : {M : Type 1} → statement M
 entered-spec =

@@ -31,16 +31,13 @@ refilled-requires : tie.Need-refilled-requires
 refilled-requires c κs = search needs
 
 returns : tie.Need-returns
-returns c =
-    let home = c .before .before .before .before .home in
-    let a = c .before .before .before .before .before .before in
-    let k = home .result .0 in (
-      c .refilled .ensures .0,
-      λ v s h. shows-gone h (home .ensures)
-          (c .refilled .ensures .1 v (without k (a .args .c .0) s)
-          (rw (c .before .shorter .ensures, c .before .before .byte .ensures)
-          (shows-without h (home .ensures) _))),
-    )
+returns c = 
+    let d = c .before .before .before .before .before .args .c .0 in
+    λ v s fine e h.
+    let home = rw (e .0) at (c .before .before .before .before .home .ensures) in
+    shows-gone home s
+    (c .refilled .ensures v (without (c .before .before .before .before .home .result .0) d s) fine (e .1)
+    (rw (c .before .shorter .ensures, c .before .before .byte .ensures) (shows-without h home _)))
 
 pub gone-spec : {M : Type 1} → statement M
 gone-spec =

@@ -2,9 +2,9 @@
 -- Assumes nothing.
 use mathlib.Core.Path.{_∙_, ap}
 use borrow.Author.Needs.{needs}
+use Rattle.gate.specs.Shown.{setupOf}
 use Rattle.rules.specs.Events.{invoked}
 use Rattle.rules.specs.State.{isIdle}
-use Rattle.gate.specs.Shown.{setupOf}
 use Rattle.effects.specs.Finds.{enters}
 use Rattle.effects.proofs.Arriving.{busy-stays, idle-picks}
 use Rattle.effects.proofs.invoked.Statement.{statement}
@@ -21,19 +21,19 @@ picked-requires c κs = search needs
 
 returns : tie.Need-returns
 unfolding invoked
-returns c =
-    λ v s h ready.
-    let n = enters (setupOf v) (c .before .before .before .before .args .c .0) s in
-    idle-picks n (s .server) (c .before .before .is-idle .ensures ∙ ap isIdle (h .server)) (c .before .if1 .taken)
-    (c .picked .ensures .1 v n (c .before .before .before .entered .ensures v s h ready))
+returns c = 
+    λ v s fine e h.
+    let n = enters (setupOf v) (c .before .before .before .before .before .args .c .0) s in
+    idle-picks n (s .server) (c .before .before .is-idle .ensures ∙ ap isIdle (h .service .server)) (c .before .if1 .taken)
+    (c .picked .ensures v n fine tt (c .before .before .before .entered .ensures v s fine e h))
 
 returns-2 : tie.Need-returns-2
 unfolding invoked
-returns-2 c =
-    λ v s h ready.
-    let n = enters (setupOf v) (c .before .before .before .args .c .0) s in
-    busy-stays n (s .server) (c .before .is-idle .ensures ∙ ap isIdle (h .server)) (c .if1 .left)
-    (c .before .before .entered .ensures v s h ready)
+returns-2 c = 
+    λ v s fine e h.
+    let n = enters (setupOf v) (c .before .before .before .before .args .c .0) s in
+    busy-stays n (s .server) (c .before .is-idle .ensures ∙ ap isIdle (h .service .server)) (c .if1 .left)
+    (c .before .before .entered .ensures v s fine e h)
 
 pub invoked-spec : {M : Type 1} → statement M
 invoked-spec =

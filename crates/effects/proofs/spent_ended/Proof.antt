@@ -16,11 +16,10 @@ queued-requires : tie.Need-queued-requires
 queued-requires c κs = search needs
 
 returns : tie.Need-returns
-returns c =
-    let home = c .before .before .home .ensures in
-    λ v s h short.
-    shows-queue h home (freed s)
-    (c .queued .ensures .1 v (freed s) (rw (c .before .freed .ensures) (shows-freed h)) short)
+returns c = 
+    λ v s fine e h.
+    shows-queue (rw (e .0) at (c .before .before .home .ensures)) (freed s)
+    (c .queued .ensures v (freed s) fine e (rw (c .before .freed .ensures) (shows-freed h)))
 
 pub spent-ended-spec : {M : Type 1} → statement M
 spent-ended-spec = tie.close (tie.spec home-requires freed-requires queued-requires returns)

@@ -28,7 +28,7 @@ returns : tie.Need-returns
 returns c = 
     let k = c .before .before .before .before .before .args .k .0 in
     λ v s fine e h.
-    refill-full fine h k (omega arith) _ (rw (e .0) at (c .before .before .size .ensures)) (c .before .used .ensures) (c .if1 .taken)
+    refill-full fine h k (omega arith) _ (rw (e .sizes) at (c .before .before .size .ensures)) (c .before .used .ensures) (c .if1 .taken)
 
 highest-in-requires : tie.Need-highest-in-requires
 highest-in-requires c κs = search needs
@@ -37,8 +37,8 @@ returns-2 : tie.Need-returns-2
 returns-2 c = 
     let k = c .before .before .before .before .before .before .before .args .k .0 in
     λ v s fine e h.
-    refill-none fine h k (omega arith) _ (rw (e .0) at (c .before .before .before .before .size .ensures)) (c .before .before .before .used .ensures) (c .before .before .if1 .left) _
-    (rw (e .1, e .2) at (c .before .highest-in .ensures .0)) (c .if2 .taken)
+    refill-none fine h k (omega arith) _ (rw (e .sizes) at (c .before .before .before .before .size .ensures)) (c .before .before .before .used .ensures) (c .before .before .if1 .left) _
+    (rw (e .priorities, e .clients) at (c .before .highest-in .ensures .0)) (c .if2 .taken)
 
 narrow-requires : tie.Need-narrow-requires
 narrow-requires c κs = search needs
@@ -66,8 +66,8 @@ returns-3 c =
     let k = c .before .before .before .before .before .before .before .before .before .before .args .k .0 in
     λ v s fine e h.
     rw (c .without .ensures, c .before .longer .ensures, c .before .before .narrow .ensures)
-    (refill-moves fine h k (omega arith) _ (rw (e .0) at (c .before .before .before .before .before .before .before .size .ensures)) (c .before .before .before .before .before .before .used .ensures) (c .before .before .before .before .before .if1 .left) _
-    (rw (e .1, e .2) at (c .before .before .before .before .highest-in .ensures .0)) (c .before .before .before .if2 .left))
+    (refill-moves fine h k (omega arith) _ (rw (e .sizes) at (c .before .before .before .before .before .before .before .size .ensures)) (c .before .before .before .before .before .before .used .ensures) (c .before .before .before .before .before .if1 .left) _
+    (rw (e .priorities, e .clients) at (c .before .before .before .before .highest-in .ensures .0)) (c .before .before .before .if2 .left))
 
 pub refilled-spec : {M : Type 1} → statement M
 refilled-spec =
