@@ -1,60 +1,97 @@
--- An event that is refused returns the same gate, and one that is accepted the gate that shows the state after.
+-- An event that is refused leaves the parts as they were, and one that is accepted those that show the state after.
 -- Assumes nothing.
-use Prim.Native.Nat.{ℕ}
-use mathlib.Core.Bool.{Bool, false, true}
-use mathlib.Core.Path.{_∙_, _≡_, ap, sym}
+use Prim.Native.Nat.{ℕ, _+_}
+use mathlib.Core.Bool.{Bool, _&&_, cond, false, true}
+use mathlib.Core.List.{List}
+use mathlib.Core.Path.{_∙_, _≡_, sym}
 use native.Mathlib.Omega.{arith}
-use borrow.Author.Tests.{eq-eqb, ne-eqb}
-use Rattle.rules.specs.Events.{Event, ran}
+use lib.Dec.{eqb}
+use lib.ListN.{getD, set}
+use borrow.Author.Tests.{eq-eqb, eqb-true, ne-eqb}
+use Rattle.rules.specs.Events.{Event, abort, invoke, ran, reply}
+use Rattle.rules.specs.Limits.{maxClients}
+use Rattle.rules.specs.Lists.{upd}
 use Rattle.rules.specs.Rank.{outranks}
 use Rattle.rules.specs.Refusals.{accepted}
-use Rattle.rules.specs.Sound.{Sound}
+use Rattle.rules.specs.Setup.{realTime}
 use Rattle.rules.specs.State.{State}
 use Rattle.rules.specs.Step.{answer, next, overcharges, step}
-use Rattle.rules.proofs.Setups.{allowed}
-use Rattle.gate.specs.Shown.{setupOf}
-use Rattle.gate.specs.Shows.{Shows}
-use Rattle.gate.specs.declared.Gate.{Gate}
+use Rattle.rules.proofs.Charge.{next-charge}
+use Rattle.rules.proofs.Tests.{by-test}
+use Rattle.gate.specs.Shown.{setupOf, table}
+use Rattle.gate.specs.Shows.{Fine, ShowsQueues}
+use Rattle.gate.specs.declared.Queues.{Queues}
 use Rattle.gate.specs.declared.Setup.{Setup}
-use Rattle.moves.proofs.Parts.{fine-at}
-use Rattle.events.specs.Answers.{Answers, Charges, Usable, numberOf}
+use Rattle.gate.proofs.SoundShows.{accepted-fine}
+use Rattle.gate.proofs.Tables.{set-table, table-same}
+use Rattle.events.specs.Answers.{Answers, Charges, Holds, numberOf}
 use Rattle.events.specs.declared.Answer.{Answer}
 use Rattle.events.specs.declared.Answer.the-variants as is
 
--- a gate that shows a sound state is usable
-pub sound-usable : {v : Setup} {s : State} {g : Gate} → Shows v s g → Sound (setupOf v) s → Usable g
-sound-usable {v} {s} {g} h sound =
-    record {
-      fine = fine-at h;
-      few-clusters = omega (
-        arith,
-        allowed (setupOf v) (sound .setup) .few-clusters,
-        ap (λ u. u .clusters) (h .setup),
-      );
-      server = rw (h .server) (h .server-fits);
-    }
+module _ {v : Setup} {s : State} {q : Queues} {cs : List ℕ} (h : Holds v s q cs) where
+  pub fine : Fine v
+  fine = accepted-fine v (h .sound .setup) (h .sound .trimmed)
 
-module _ {v : Setup} {s : State} (e : Event) where
-  pub refuses : {g : Gate} (a : Answer) → Shows v s g → answer (setupOf v) s e ≡ numberOf a
-      → (numberOf a ≡ accepted → ⊥) → Answers v s e (record { answer = a; gate = g })
+  pub refuses : (e : Event) (a : Answer) → answer (setupOf v) s e ≡ numberOf a → (numberOf a ≡ accepted → ⊥)
+      → Answers v s e (record { answer = a; queues = q }) cs
   unfolding step
-  refuses a h q n =
-      record {
-        number = sym q;
-        shows = rw (ne-eqb (answer (setupOf v) s e) accepted (λ z. n (sym q ∙ z))) h;
-      }
+  refuses e a z n =
+      let w = ne-eqb (answer (setupOf v) s e) accepted (λ y. n (sym z ∙ y)) in
+      record { number = sym z; queues = rw w (h .queues); charges = rw w (h .charges) }
 
-  pub accepts : {r : Gate} → answer (setupOf v) s e ≡ accepted → Shows v (next (setupOf v) s e) r
-      → Answers v s e (record { answer = is.Accepted; gate = r })
-  unfolding step
-  accepts q h = record { number = sym q; shows = rw (eq-eqb (answer (setupOf v) s e) accepted q) h }
+  -- CHARGES THAT AN EVENT LEAVES
+
+  same-charge : (e : Event) → ((c : ℕ) → s .charge c ≡ next (setupOf v) s e .charge c)
+      → cs ≡ table maxClients (next (setupOf v) s e .charge)
+  same-charge e f = h .charges ∙ table-same maxClients (s .charge) _ (λ c b. f c)
+
+  pub reply-charge : cs ≡ table maxClients (next (setupOf v) s reply .charge)
+  reply-charge = same-charge reply (λ c. omega (arith, next-charge (setupOf v) c s reply))
+
+  pub abort-charge : (d : ℕ) → cs ≡ table maxClients (next (setupOf v) s (abort d) .charge)
+  abort-charge d = same-charge (abort d) (λ c. omega (arith, next-charge (setupOf v) c s (abort d)))
+
+  -- a real-time client's charge became 0
+  pub invoke-charge : (d : ℕ) {cs′ : List ℕ} → cs′ ≡ cond (realTime (setupOf v) d) (set cs d 0) cs
+      → cs′ ≡ table maxClients (next (setupOf v) s (invoke d) .charge)
+  invoke-charge d e =
+      e ∙ by-test (realTime (setupOf v) d)
+      (λ r. rw (r, h .charges) (set-table maxClients (s .charge) d 0
+      ∙ table-same maxClients (upd (s .charge) d 0) _ (λ c b. sym (next-charge (setupOf v) c s (invoke d)
+      ∙ here c r))))
+      (λ r. rw (r, h .charges) (table-same maxClients (s .charge) _ (λ c b. sym (next-charge (setupOf v) c s (invoke d)
+      ∙ away c r))))
+    where
+      here : (c : ℕ) → realTime (setupOf v) d ≡ true
+          → cond (eqb d c && realTime (setupOf v) c) 0 (s .charge c + 0) ≡ upd (s .charge) d 0 c
+      here c r =
+          by-test (eqb d c)
+          (λ e. rw (← eqb-true d c e, r, eq-eqb d d _))
+          (λ e. rw e)
+
+      away : (c : ℕ) → realTime (setupOf v) d ≡ false
+          → cond (eqb d c && realTime (setupOf v) c) 0 (s .charge c + 0) ≡ s .charge c
+      away c r = by-test (eqb d c) (λ e. rw (← eqb-true d c e, r) (omega arith)) (λ e. rw e (omega arith))
+
+-- an accepted event
+pub accepts : {v : Setup} {s : State} (e : Event) {r : Queues} {cs : List ℕ} → answer (setupOf v) s e ≡ accepted
+    → ShowsQueues v (next (setupOf v) s e) r → cs ≡ table maxClients (next (setupOf v) s e .charge)
+    → Answers v s e (record { answer = is.Accepted; queues = r }) cs
+unfolding step
+accepts {v} {s} e z h f =
+    let w = eq-eqb (answer (setupOf v) s e) accepted z in
+    record { number = sym z; queues = rw w h; charges = rw w f }
 
 -- THE LAST OF A RUN
 
 module _ {v : Setup} {s : State} (n : ℕ) {o : Bool} (over : o ≡ overcharges (setupOf v) s n) where
-  pub charges-over : {g : Gate} → o ≡ true → Shows v s g → Charges v s n (record { answer = is.Unsound; gate = g })
-  charges-over t h = record { number = rw (← over, t); shows = rw (← over, t) h }
+  pub charges-over : {q : Queues} {cs : List ℕ} → o ≡ true → Holds v s q cs
+      → Charges v s n (record { answer = is.Unsound; queues = q }) cs
+  charges-over t h =
+      record { number = rw (← over, t); queues = rw (← over, t) (h .queues); charges = rw (← over, t) (h .charges) }
 
-  pub charges-fine : {r : Gate} → o ≡ false → Shows v (ran (setupOf v) (outranks (setupOf v) s) n s) r
-      → Charges v s n (record { answer = is.Accepted; gate = r })
-  charges-fine t h = record { number = rw (← over, t); shows = rw (← over, t) h }
+  pub charges-fine : {r : Queues} {cs : List ℕ} → o ≡ false
+      → ShowsQueues v (ran (setupOf v) (outranks (setupOf v) s) n s) r
+      → cs ≡ table maxClients (ran (setupOf v) (outranks (setupOf v) s) n s .charge)
+      → Charges v s n (record { answer = is.Accepted; queues = r }) cs
+  charges-fine t h f = record { number = rw (← over, t); queues = rw (← over, t) h; charges = rw (← over, t) f }

@@ -2,7 +2,8 @@
 -- Assumes nothing.
 use Prim.Native.Nat.{_+_, _<_, _≤_, ℕ}
 use mathlib.Core.Bool.{Bool, false, true, _||_}
-use mathlib.Core.Path.{_∙_, _≡_, ap, ap₂}
+use mathlib.Core.List.{List}
+use mathlib.Core.Path.{_≡_}
 use native.Mathlib.Omega.{arith}
 use lib.Dec.{leb, ltb}
 use borrow.Author.Tests.{eq-eqb, le-leb, lt-leb, ne-eqb}
@@ -14,32 +15,26 @@ use Rattle.rules.specs.Setup.{realTime}
 use Rattle.rules.specs.State.{State, isIdle, isSpent}
 use Rattle.rules.specs.Step.{answer, next, overcharges, present, step}
 use Rattle.rules.proofs.Tests.{by-test}
-use Rattle.gate.specs.Shown.{serverOf, setupOf}
-use Rattle.gate.specs.Shows.{Shows}
-use Rattle.gate.specs.declared.Gate.{Gate}
+use Rattle.gate.specs.Shown.{setupOf}
 use Rattle.gate.specs.declared.Setup.{Setup}
-use Rattle.presence.proofs.Here.{kind-is}
 use Rattle.events.specs.Answers.{Answers, Charges}
-use Rattle.events.specs.declared.Answered.{Answered}
+use Rattle.events.specs.declared.Outcome.{Outcome}
 
-module _ {v : Setup} {s : State} {g : Gate} (h : Shows v s g) where
+module _ {v : Setup} {s : State} where
   -- INVOKE
 
-  module _ (c : ℕ) {n i : ℕ} (clients : n ≡ g .setup .clients) (index : i ≡ c) where
-    clients-is : n ≡ v .clients
-    clients-is = clients ∙ ap (λ u. u .clients) (h .setup)
-
+  module _ (c : ℕ) {n i : ℕ} (clients : n ≡ v .clients) (index : i ≡ c) where
     pub invoke-unknown : n ≤ i → answer (setupOf v) s (invoke c) ≡ noClient
     unfolding answer
-    invoke-unknown b = rw (le-leb (v .clients) c (omega (arith, clients-is)))
+    invoke-unknown b = rw (le-leb (v .clients) c (omega (arith, clients)))
 
     pub abort-unknown : n ≤ i → answer (setupOf v) s (abort c) ≡ noClient
     unfolding answer
-    abort-unknown b = rw (le-leb (v .clients) c (omega (arith, clients-is)))
+    abort-unknown b = rw (le-leb (v .clients) c (omega (arith, clients)))
 
     module _ (known : i < n) where
       known-is : leb (v .clients) c ≡ false
-      known-is = lt-leb (v .clients) c (omega (arith, clients-is))
+      known-is = lt-leb (v .clients) c (omega (arith, clients))
 
       pub invoke-present : {b : Bool} → b ≡ present (setupOf v) s c → b ≡ true
           → answer (setupOf v) s (invoke c) ≡ waitsAlready
@@ -53,31 +48,25 @@ module _ {v : Setup} {s : State} {g : Gate} (h : Shows v s g) where
 
       -- ABORT
 
-      module _ {r : Bool} (kind : r ≡ realTime (setupOf (g .setup)) c) where
-        real-is : r ≡ realTime (setupOf v) c
-        real-is = kind-is h c kind
-
+      module _ {r : Bool} (kind : r ≡ realTime (setupOf v) c) where
         pub abort-effort : r ≡ false → answer (setupOf v) s (abort c) ≡ bestEffort
         unfolding answer
-        abort-effort t = rw (known-is, ← real-is, t)
+        abort-effort t = rw (known-is, ← kind, t)
 
-        module _ (real : r ≡ true) {p : Bool} (served : p ≡ isSpent (serverOf (g .server)) c)
+        module _ (real : r ≡ true) {p : Bool} (served : p ≡ isSpent (s .server) c)
             {w : Bool} (waiting : w ≡ waits (setupOf v) s c) where
-          served-is : p ≡ isSpent (s .server) c
-          served-is = served ∙ ap (λ x. isSpent x c) (h .server)
-
           pub abort-absent : w || p ≡ false → answer (setupOf v) s (abort c) ≡ notWaiting
           unfolding answer
-          abort-absent t = rw (known-is, ← real-is, real, ← served-is, ← waiting, t)
+          abort-absent t = rw (known-is, ← kind, real, ← served, ← waiting, t)
 
           module _ (there : w || p ≡ true) where
             pub abort-spent : p ≡ true → answer (setupOf v) s (abort c) ≡ spentAlready
             unfolding answer
-            abort-spent t = rw (known-is, ← real-is, real, ← served-is, ← waiting, there, t)
+            abort-spent t = rw (known-is, ← kind, real, ← served, ← waiting, there, t)
 
             pub abort-fine : p ≡ false → answer (setupOf v) s (abort c) ≡ accepted
             unfolding answer
-            abort-fine t = rw (known-is, ← real-is, real, ← served-is, ← waiting, there, t)
+            abort-fine t = rw (known-is, ← kind, real, ← served, ← waiting, there, t)
 
   -- RUN AND REPLY
 
@@ -85,41 +74,37 @@ module _ {v : Setup} {s : State} {g : Gate} (h : Shows v s g) where
   unfolding answer
   run-none n e = rw (eq-eqb n 0 e)
 
-  module _ {b : Bool} (rests : b ≡ isIdle (serverOf (g .server))) where
-    rests-is : b ≡ isIdle (s .server)
-    rests-is = rests ∙ ap isIdle (h .server)
-
+  module _ {b : Bool} (rests : b ≡ isIdle (s .server)) where
     pub reply-idle : b ≡ true → answer (setupOf v) s reply ≡ serverIdle
     unfolding answer
-    reply-idle t = rw (← rests-is, t)
+    reply-idle t = rw (← rests, t)
 
     pub reply-fine : b ≡ false → answer (setupOf v) s reply ≡ accepted
     unfolding answer
-    reply-fine t = rw (← rests-is, t)
+    reply-fine t = rw (← rests, t)
 
     module _ (n : ℕ) (positive : n ≡ 0 → ⊥) where
       pub run-idle : b ≡ true → answer (setupOf v) s (run n) ≡ serverIdle
       unfolding answer
-      run-idle t = rw (ne-eqb n 0 positive, ← rests-is, t)
+      run-idle t = rw (ne-eqb n 0 positive, ← rests, t)
 
-      module _ (busy : b ≡ false) {p : Bool} (past : p ≡ ltb (g .setup .cap) (g .units + n)) where
-        cap-is : p ≡ ltb (v .cap) (s .units + n)
-        cap-is = past ∙ ap₂ (λ u m. ltb (u .cap) (m + n)) (h .setup) (h .units)
-
+      module _ (busy : b ≡ false) {p : Bool} (past : p ≡ ltb (v .cap) (s .units + n)) where
         pub run-past : p ≡ true → answer (setupOf v) s (run n) ≡ runPastCap
         unfolding answer
-        run-past t = rw (ne-eqb n 0 positive, ← rests-is, busy, ← cap-is, t)
+        run-past t = rw (ne-eqb n 0 positive, ← rests, busy, ← past, t)
 
         -- what is left of a run decides
-        pub run-charges : {r : Answered} → p ≡ false → Charges v s n r → Answers v s (run n) r
+        pub run-charges : {r : Outcome} {cs : List ℕ} → p ≡ false → Charges v s n r cs → Answers v s (run n) r cs
         unfolding answer next step
         run-charges {r} t q =
             by-test (overcharges (setupOf v) s n)
             (λ o. record {
-              number = rw (ne-eqb n 0 positive, ← rests-is, busy, ← cap-is, t) (q .number);
-              shows = rw (ne-eqb n 0 positive, ← rests-is, busy, ← cap-is, t, o) (rw o at (q .shows));
+              number = rw (ne-eqb n 0 positive, ← rests, busy, ← past, t) (q .number);
+              queues = rw (ne-eqb n 0 positive, ← rests, busy, ← past, t, o) (rw o at (q .queues));
+              charges = rw (ne-eqb n 0 positive, ← rests, busy, ← past, t, o) (rw o at (q .charges));
             })
             (λ o. record {
-              number = rw (ne-eqb n 0 positive, ← rests-is, busy, ← cap-is, t) (q .number);
-              shows = rw (ne-eqb n 0 positive, ← rests-is, busy, ← cap-is, t, o) (rw o at (q .shows));
+              number = rw (ne-eqb n 0 positive, ← rests, busy, ← past, t) (q .number);
+              queues = rw (ne-eqb n 0 positive, ← rests, busy, ← past, t, o) (rw o at (q .queues));
+              charges = rw (ne-eqb n 0 positive, ← rests, busy, ← past, t, o) (rw o at (q .charges));
             })

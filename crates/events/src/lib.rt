@@ -1,19 +1,22 @@
-// The four events on the gate by value. Each answers as the rules do, and returns the gate that shows the state
-// after: a refused event returns the same gate.
+// The four events on a gate's parts. Each answers as the rules do, and leaves the parts that show the state after: a
+// refused event leaves them as they were. Reply and abort have nothing to do with the charges.
+
+mod running;
 
 use gate::Client;
-use gate::Gate;
+use gate::Queues;
+pub use running::run;
 ghost use mathlib.Core.Path.{_≡_};
-ghost use Prim.Native.Nat.{_+_, _≤_};
-ghost use lib.Dec.{ltb};
-ghost use Rattle.rules.specs.Limits.{maxCap};
-ghost use Rattle.rules.specs.State.{State};
+ghost use mathlib.Core.Bool.{cond};
+ghost use mathlib.Core.List.{List};
+ghost use Prim.Native.Nat.{ℕ, _≤_, _<_};
+ghost use lib.Dec.{eqb};
+ghost use lib.ListN.{getD, set};
+ghost use Rattle.rules.specs.Limits.{maxClients};
 ghost use Rattle.rules.specs.Events as rules;
-ghost use Rattle.rules.specs.Sound.{Sound};
-ghost use Rattle.gate.specs.declared.Setup as given;
-ghost use Rattle.gate.specs.Shown.{setupOf};
-ghost use Rattle.gate.specs.Shows.{Shows};
-ghost use Rattle.events.specs.Answers.{numberOf, Usable, Answers, Charges};
+ghost use Rattle.gate.specs.Shown.{serverOf};
+ghost use Rattle.gate.specs.Shows.{Homes, Lent, ServerFits};
+ghost use Rattle.events.specs.Answers.{numberOf, Answering};
 
 // What an event answers. Unknown is for a record that is no event: it comes before there is an event to do.
 pub enum Answer {
@@ -30,10 +33,10 @@ pub enum Answer {
     Unsound,
 }
 
-// The answer, and the gate after.
-pub struct Answered {
+// The answer, and the queues after.
+pub struct Outcome {
     pub answer: Answer,
-    pub gate: Gate,
+    pub queues: Queues,
 }
 
 // An answer's number.
@@ -55,153 +58,140 @@ pub fn number(a: Answer) -> u64
     }
 }
 
+// INVOKE
+
+// The charge of a real-time client becomes 0.
+fn begun(charges: &mut [u32; 64], kinds: &[u8; 64], c: Client)
+    requires { ⌜ c .0 < maxClients ⌝ }
+    ensures { λ _.
+        ⌜ now (charges .exit) ≡ cond (eqb (getD (now (kinds .entry)) (c .0) 0) 0)
+        (set (now (charges .entry)) (c .0) 0) (now (charges .entry)) ⌝ }
+{
+    if rows::is_real_time(kinds, c) {
+        charging::reset(charges, c);
+    }
+}
+
 // Invoke c: 10, 11.
-pub fn invoke(g: Gate, c: Client) -> Answered
-    requires { ⌜ Usable g ⌝ }
+pub fn invoke<'a>(
+    q: Queues,
+    kinds: &'a [u8; 64],
+    homes: &'a [u8; 64],
+    sizes: &'a [u8; 8],
+    clients: usize,
+    charges: &mut [u32; 64],
+    c: Client,
+) -> Outcome
+    requires { ⌜ Homes (now homes) × (clients ≤ maxClients) ⌝ }
     ensures { λ r.
-        ⌜ ((v : given.Setup) (s : State) → Shows v s g → Sound (setupOf v) s
-        → Answers v s (rules.invoke (c .0)) r) ⌝ }
+        ⌜ Answering (λ v. (now (kinds .entry) ≡ v .kinds) × (now (homes .entry) ≡ v .homes)
+        × (now (sizes .entry) ≡ v .sizes) × (clients ≡ v .clients))
+        (rules.invoke (c .0)) q (now (charges .entry)) r (now (charges .exit)) ⌝ }
 {
-    let setup = g.setup;
-    if gate::wide(setup.clients) <= rows::index(c) {
-        return Answered {
+    if clients <= rows::index(c) {
+        return Outcome {
             answer: Answer::NoClient,
-            gate: g,
+            queues: q,
         };
     }
-    if presence::present(g, c) {
-        return Answered {
+    let k = rows::home(homes, c);
+    let i = k.0;
+    let line = q.lines[i];
+    let y = q.service;
+    let server = y.server;
+    if presence::present(line, q.rooms[i], &q.background, server, c) {
+        return Outcome {
             answer: Answer::WaitsAlready,
-            gate: g,
+            queues: q,
         };
     }
-    let n = effects::invoked(g, c);
-    Answered {
+    begun(charges, kinds, c);
+    let n = effects::invoked(q, kinds, homes, sizes, c);
+    Outcome {
         answer: Answer::Accepted,
-        gate: n,
+        queues: n,
     }
 }
 
-// Whether n units more would carry the units served past the cap.
-fn passes_cap(cap: u16, units: u32, n: u16) -> bool
-    ensures { λ r. ⌜ r ≡ ltb cap (units + n) ⌝ }
-{
-    if cap < n {
-        return true;
-    }
-    ((cap - n) as u32) < units
-}
-
-// The last of a run: 19 for the charge, or the run.
-fn charged(g: Gate, n: u16) -> Answered
-    requires { ⌜ Usable g × (g .units + n ≤ maxCap) ⌝ }
-    ensures { λ r.
-        ⌜ ((v : given.Setup) (s : State) → Shows v s g → Sound (setupOf v) s → Charges v s n r) ⌝ }
-{
-    let set = charging::charged(g);
-    let charges = g.charges;
-    let setup = g.setup;
-    if charging::overcharges(&charges, set, n, gate::wide(setup.clients)) {
-        return Answered {
-            answer: Answer::Unsound,
-            gate: g,
-        };
-    }
-    let r = charging::ran(g, set, n);
-    Answered {
-        answer: Answer::Accepted,
-        gate: r,
-    }
-}
-
-// Run n: 13, 12, 14, then 19 for the charge.
-pub fn run(g: Gate, n: u16) -> Answered
-    requires { ⌜ Usable g ⌝ }
-    ensures { λ r.
-        ⌜ ((v : given.Setup) (s : State) → Shows v s g → Sound (setupOf v) s
-        → Answers v s (rules.run n) r) ⌝ }
-{
-    if n == 0 {
-        return Answered {
-            answer: Answer::RunOfNone,
-            gate: g,
-        };
-    }
-    let server = g.server;
-    if moves::is_idle(server) {
-        return Answered {
-            answer: Answer::ServerIdle,
-            gate: g,
-        };
-    }
-    let setup = g.setup;
-    if passes_cap(setup.cap, g.units, n) {
-        return Answered {
-            answer: Answer::RunPastCap,
-            gate: g,
-        };
-    }
-    charged(g, n)
-}
+// REPLY AND ABORT
 
 // Reply: 12.
-pub fn reply(g: Gate) -> Answered
-    requires { ⌜ Usable g ⌝ }
+pub fn reply<'a>(
+    q: Queues,
+    homes: &'a [u8; 64],
+    sizes: &'a [u8; 8],
+    priorities: &'a [u16; 64],
+    clients: usize,
+) -> Outcome
+    requires { ⌜ ServerFits (serverOf (q .service .server)) × Homes (now homes) × (clients ≤ maxClients) ⌝ }
     ensures { λ r.
-        ⌜ ((v : given.Setup) (s : State) → Shows v s g → Sound (setupOf v) s → Answers v s rules.reply r) ⌝ }
+        ⌜ ((cs : List ℕ) → Answering (λ v. (now (homes .entry) ≡ v .homes)
+        × Lent v (now (sizes .entry)) (now (priorities .entry)) clients) rules.reply q cs r cs) ⌝ }
 {
-    let server = g.server;
-    if moves::is_idle(server) {
-        return Answered {
+    let y = q.service;
+    let server = y.server;
+    if rows::is_idle(server) {
+        return Outcome {
             answer: Answer::ServerIdle,
-            gate: g,
+            queues: q,
         };
     }
-    let n = effects::replied(g);
-    Answered {
+    let n = effects::replied(q, homes, sizes, priorities, clients);
+    Outcome {
         answer: Answer::Accepted,
-        gate: n,
+        queues: n,
     }
 }
 
 // Abort c: 10, 16, 15, 17.
-pub fn abort(g: Gate, c: Client) -> Answered
-    requires { ⌜ Usable g ⌝ }
+pub fn abort<'a>(
+    q: Queues,
+    kinds: &'a [u8; 64],
+    homes: &'a [u8; 64],
+    sizes: &'a [u8; 8],
+    priorities: &'a [u16; 64],
+    clients: usize,
+    c: Client,
+) -> Outcome
+    requires { ⌜ Homes (now homes) × (clients ≤ maxClients) ⌝ }
     ensures { λ r.
-        ⌜ ((v : given.Setup) (s : State) → Shows v s g → Sound (setupOf v) s
-        → Answers v s (rules.abort (c .0)) r) ⌝ }
+        ⌜ ((cs : List ℕ) → Answering (λ v. (now (kinds .entry) ≡ v .kinds) × (now (homes .entry) ≡ v .homes)
+        × Lent v (now (sizes .entry)) (now (priorities .entry)) clients) (rules.abort (c .0)) q cs r cs) ⌝ }
 {
-    let setup = g.setup;
-    if gate::wide(setup.clients) <= rows::index(c) {
-        return Answered {
+    if clients <= rows::index(c) {
+        return Outcome {
             answer: Answer::NoClient,
-            gate: g,
+            queues: q,
         };
     }
-    if !rows::is_real_time(setup, c) {
-        return Answered {
+    if !rows::is_real_time(kinds, c) {
+        return Outcome {
             answer: Answer::BestEffort,
-            gate: g,
+            queues: q,
         };
     }
-    let server = g.server;
-    let spent = presence::is_spent(server, c);
-    let waits = presence::waits(g, c);
+    let k = rows::home(homes, c);
+    let i = k.0;
+    let line = q.lines[i];
+    let y = q.service;
+    let server = y.server;
+    let spent = rows::is_spent(server, rows::index(c));
+    let waits = presence::waits(line, q.rooms[i], c);
     if !(waits | spent) {
-        return Answered {
+        return Outcome {
             answer: Answer::NotWaiting,
-            gate: g,
+            queues: q,
         };
     }
     if spent {
-        return Answered {
+        return Outcome {
             answer: Answer::SpentAlready,
-            gate: g,
+            queues: q,
         };
     }
-    let n = effects::aborted(g, c);
-    Answered {
+    let n = effects::aborted(q, homes, sizes, priorities, clients, c);
+    Outcome {
         answer: Answer::Accepted,
-        gate: n,
+        queues: n,
     }
 }
