@@ -30,7 +30,7 @@ returns-2 : tie.Need-returns-2
 returns-2 c =
     let d = c .before .before .before .before in
     let m = d .before .member in
-    let a = d .before .before .before .args in
+    let a = d .before .before .args in
     let p = precedesIn (a .priorities .now) (a .waiting) (a .c) in
     let e = counted (a .n) p (omega arith) (c .before .before .before .outranking .ensures)
     (c .before .before .count .ensures) in
@@ -44,7 +44,7 @@ returns-3 : tie.Need-returns-3
 returns-3 c =
     let d = c .before .before .before in
     let m = d .before .member in
-    let a = d .before .before .before .args in
+    let a = d .before .before .args in
     let p = precedesIn (a .priorities .now) (a .waiting) (a .c) in
     let e = counted (a .n) p (omega arith) (c .before .before .outranking .ensures) (c .before .count .ensures) in
     rw (
