@@ -26,7 +26,7 @@ use Rattle.gate.specs.declared.Line.{Line}
 use Rattle.gate.specs.declared.Setup.{Setup}
 use Rattle.gate.proofs.Parts.{has-is, line-at, room-at}
 use Rattle.rows.proofs.Ranks.{rank-is}
-use Rattle.charging.specs.Charged.{chargedIn, chargedOf, precedesIn, waitingIn}
+use Rattle.charging.specs.Charged.{chargedIn, precedesIn, waitingIn}
 use Rattle.charging.proofs.Building.{count-same, union-all, union-next, union-none}
 
 -- those of the clusters below k, as the code makes the set
@@ -34,7 +34,7 @@ abbrev pub chargedBelow : Line → List Line → List ℕ → List ℕ → List 
 chargedBelow d ls rs ms ps n zero = 0
 chargedBelow d ls rs ms ps n (suc k) =
     unionOf (chargedBelow d ls rs ms ps n k)
-    (chargedOf (getD ls k d .places) (getD rs k 0) (getD ms k 0) ps n)
+    (setOf n (chargedIn ps (waitingIn (getD ls k d .places) (getD rs k 0)) n (getD ms k 0)))
 
 module _ (v : Setup) {s : State} (sound : Sound (setupOf v) s) where
   abbrev pub isCharged : ℕ → Bool

@@ -22,10 +22,6 @@ precedesIn ps waiting c d = member waiting d && rankBy ps d c
 abbrev pub chargedIn : List ℕ → ℕ → ℕ → ℕ → ℕ → Bool
 chargedIn ps waiting n m c = member waiting c && ltb (countBelow (precedesIn ps waiting c) n) m
 
--- the charged clients below n of a line and a room, where m is the size
-abbrev pub chargedOf : List ℕ → ℕ → ℕ → List ℕ → ℕ → ℕ
-chargedOf q room m ps n = setOf n (chargedIn ps (waitingIn q room) n m)
-
 -- c is in the set, and n units more would carry its charge past the limit
 abbrev pub overchargesIn : List ℕ → ℕ → ℕ → ℕ → Bool
 overchargesIn charges s n c = member s c && ltb maxCharge (getD charges c 0 + n)

@@ -5,11 +5,10 @@ use gate::Cluster;
 use gate::Gate;
 use gate::Line;
 ghost use mathlib.Core.Path.{_≡_};
-ghost use mathlib.Core.Bool.{false, _&&_, cond};
-ghost use Prim.Native.Nat.{_+_, _≤_, _<_};
-ghost use lib.Dec.{ltb};
+ghost use mathlib.Core.Bool.{false, cond};
+ghost use Prim.Native.Nat.{_≤_, _<_};
 ghost use lib.ListN.{set};
-ghost use Rattle.rules.specs.Limits.{maxClusters, maxClients, maxCharge};
+ghost use Rattle.rules.specs.Limits.{maxClusters, maxClients};
 ghost use Rattle.rules.specs.Lists.{someBelow};
 ghost use Rattle.rules.specs.State.{State};
 ghost use Rattle.rules.specs.Rank.{outranks};
@@ -19,8 +18,7 @@ ghost use Rattle.sets.specs.Sets.{setOf, withOf};
 ghost use Rattle.gate.specs.declared.Setup as given;
 ghost use Rattle.gate.specs.Shown.{setupOf, showRooms};
 ghost use Rattle.gate.specs.Shows.{ShowsLines};
-ghost use Rattle.charging.specs.Charged.{waitingIn, precedesIn, chargedIn, chargedOf, overchargesIn};
-ghost use Rattle.charging.specs.Charged.{grownAt, grown};
+ghost use Rattle.charging.specs.Charged.{waitingIn, precedesIn, chargedIn, overchargesIn, grownAt, grown};
 
 // WHO WAITS
 
@@ -98,18 +96,10 @@ fn charged_among(priorities: &[u16; 64], waiting: u64, n: usize, m: usize) -> u6
     s
 }
 
-// The charged clients of a cluster of size m, by its line and its room.
-fn charged_of(line: Line, room: u64, m: usize, priorities: &[u16; 64], n: usize) -> u64
-    requires { ⌜ n ≤ maxClients ⌝ }
-    ensures { λ r. ⌜ r ≡ chargedOf (line .places) room m (now (priorities .entry)) n ⌝ }
-{
-    charged_among(priorities, waiting_in(line, room), n, m)
-}
-
 // The charged clients.
 pub fn charged(
     lines: [Line; 8],
-    rooms: [u64; 8],
+    rooms: &[u64; 8],
     sizes: &[u8; 8],
     priorities: &[u16; 64],
     clusters: usize,
@@ -119,14 +109,15 @@ pub fn charged(
     ensures { λ r.
         ⌜ ((v : given.Setup) (s : State) → now (sizes .entry) ≡ v .sizes → now (priorities .entry) ≡ v .priorities
         → clusters ≡ v .clusters → clients ≡ v .clients → ShowsLines (s .lines) lines
-        → rooms ≡ showRooms (setupOf v .cluster) (s .room) → Sound (setupOf v) s
+        → now (rooms .entry) ≡ showRooms (setupOf v .cluster) (s .room) → Sound (setupOf v) s
         → r ≡ setOf maxClients (charged (setupOf v) (outranks (setupOf v) s) s)) ⌝ }
 {
     let mut s: u64 = 0;
     let mut k: usize = 0;
     while k < clusters {
+        let waiting = waiting_in(lines[k], rooms[k]);
         let m = rows::size(sizes, Cluster(k));
-        s = sets::union(s, charged_of(lines[k], rooms[k], m, priorities, clients));
+        s = sets::union(s, charged_among(priorities, waiting, clients, m));
         k += 1;
     }
     s
@@ -134,14 +125,15 @@ pub fn charged(
 
 // CHARGES
 
-// Whether the charge of a client in the set and n units more pass the limit.
-fn overcharged(charge: u32, inside: bool, n: u16) -> bool
-    ensures { λ r. ⌜ r ≡ (inside && ltb maxCharge (charge + n)) ⌝ }
+// Whether c is in the set, and n units more would carry its charge past the limit.
+fn overcharged(charges: &[u32; 64], set: u64, n: u16, c: usize) -> bool
+    requires { ⌜ c < maxClients ⌝ }
+    ensures { λ r. ⌜ r ≡ overchargesIn (now (charges .entry)) set n c ⌝ }
 {
-    if inside {
-        return Gate::MAX_CHARGE - (n as u32) < charge;
+    if !sets::member(set, c) {
+        return false;
     }
-    false
+    Gate::MAX_CHARGE - (n as u32) < charges[c]
 }
 
 // Whether n units more would carry the charge of one of the clients in the set past the limit.
@@ -151,7 +143,7 @@ pub fn overcharges(charges: &[u32; 64], set: u64, n: u16, clients: usize) -> boo
 {
     let mut c: usize = 0;
     while c < clients {
-        if overcharged(charges[c], sets::member(set, c), n) {
+        if overcharged(charges, set, n, c) {
             return true;
         }
         c += 1;

@@ -12,33 +12,36 @@ use Rattle.charging.proofs.charged.Statement.{statement}
 use Rattle.charging.proofs.charged.Tie as tie
 
 abbrev Inv-loop : tie.InvT-loop
-Inv-loop sizes priorities clusters clients lines rooms s₀ k₀ s k =
-    (k ≤ clusters) × (clusters ≤ 8) × (clients ≤ 64) × (length lines ≡ 8) × (length rooms ≡ 8)
+Inv-loop rooms sizes priorities clusters clients lines s₀ k₀ s k =
+    (k ≤ clusters) × (clusters ≤ 8) × (clients ≤ 64) × (length lines ≡ 8)
     × (s ≡ chargedBelow blankLine lines rooms sizes priorities clients k)
 
 abbrev μ-loop : tie.MeasureT-loop
-μ-loop sizes priorities clusters clients lines rooms s₀ k₀ s k = clusters - k
+μ-loop rooms sizes priorities clusters clients lines s₀ k₀ s k = clusters - k
 
 loop-holds : tie.Need-loop-holds Inv-loop μ-loop
-loop-holds c = (omega arith, c .pre .0, c .pre .1, search needs, search needs, refl)
+loop-holds c = (omega arith, c .pre .0, c .pre .1, search needs, refl)
+
+mul-waiting-in : tie.Need-mul-waiting-in Inv-loop μ-loop
+mul-waiting-in c = omega arith
+
+array-copy-out-waiting-in : tie.Need-array-copy-out-waiting-in Inv-loop μ-loop
+array-copy-out-waiting-in c = omega arith
+
+mul-waiting-in-2 : tie.Need-mul-waiting-in-2 Inv-loop μ-loop
+mul-waiting-in-2 c = omega arith
+
+element-copy-out-waiting-in : tie.Need-element-copy-out-waiting-in Inv-loop μ-loop
+element-copy-out-waiting-in c = omega arith
+
+waiting-in-requires : tie.Need-waiting-in-requires Inv-loop μ-loop
+waiting-in-requires c κs = search needs
 
 size-requires : tie.Need-size-requires Inv-loop μ-loop
 size-requires c κs = omega arith
 
-mul-charged-of : tie.Need-mul-charged-of Inv-loop μ-loop
-mul-charged-of c = omega arith
-
-array-copy-out-charged-of : tie.Need-array-copy-out-charged-of Inv-loop μ-loop
-array-copy-out-charged-of c = omega arith
-
-mul-charged-of-2 : tie.Need-mul-charged-of-2 Inv-loop μ-loop
-mul-charged-of-2 c = omega arith
-
-array-read-charged-of : tie.Need-array-read-charged-of Inv-loop μ-loop
-array-read-charged-of c = omega arith
-
-charged-of-requires : tie.Need-charged-of-requires Inv-loop μ-loop
-charged-of-requires c κs = search needs
+charged-among-requires : tie.Need-charged-among-requires Inv-loop μ-loop
+charged-among-requires c κs = search needs
 
 union-requires : tie.Need-union-requires Inv-loop μ-loop
 union-requires c κs = search needs
@@ -51,24 +54,18 @@ loop-less c = omega arith
 
 loop-again : tie.Need-loop-again Inv-loop μ-loop
 loop-again c =
-    let z = c .before .before .before in
-    let l = z .before .before .loop in (
-      omega arith,
-      l .inv .1,
-      l .inv .2,
-      l .inv .3,
-      l .inv .4,
-      rw (add-one (l .k), ← l .inv .5, ← z .size .ensures, ← c .before .charged-of .ensures)
-          (c .union .ensures),
-    )
+    let z = c .before .before in
+    let w = z .before in
+    let l = w .before .before .before .before .loop in
+    let e = rw (w .waiting-in .ensures, z .size .ensures) at (c .before .charged-among .ensures) in
+    (omega arith, l .inv .1, l .inv .2, l .inv .3, rw (add-one (l .k), ← l .inv .4, ← e) (c .union .ensures))
 
 returns : tie.Need-returns Inv-loop μ-loop
 returns c =
     let l = c .before .loop in
-    let a = c .before .before .args in
-    let e : l .k ≡ a .clusters = omega arith in
+    let e : l .k ≡ c .before .before .args .clusters = omega arith in
     λ v s ms ps ks cs lines rooms sound.
-    l .inv .5 ∙ rw (e, ms, ps, ks, cs) (charged-all v sound lines rooms blankLine)
+    l .inv .4 ∙ rw (e, ms, ps, ks, cs) (charged-all v sound lines rooms blankLine)
 
 pub charged-spec : {M : Type 1} → statement M
 charged-spec =
@@ -77,12 +74,13 @@ charged-spec =
     Inv-loop
     μ-loop
     loop-holds
+    mul-waiting-in
+    array-copy-out-waiting-in
+    mul-waiting-in-2
+    element-copy-out-waiting-in
+    waiting-in-requires
     size-requires
-    mul-charged-of
-    array-copy-out-charged-of
-    mul-charged-of-2
-    array-read-charged-of
-    charged-of-requires
+    charged-among-requires
     union-requires
     add-k
     loop-less
