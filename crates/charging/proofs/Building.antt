@@ -1,7 +1,7 @@
 -- Sets that are built client by client and cluster by cluster, and their counts.
 -- Assumes nothing.
 use Prim.Native.Nat.{_+_, _<_, _≤_, suc, zero, ℕ}
-use mathlib.Core.Bool.{Bool, _&&_, _||_, cond, false, true, and-false, or-true}
+use mathlib.Core.Bool.{Bool, _&&_, _||_, cond, false, true, and-false, or-comm}
 use mathlib.Core.Path.{_∙_, _≡_, ap, refl, sym}
 use native.Mathlib.Omega.{arith}
 use lib.Dec.{eqb, ltb}
@@ -33,18 +33,18 @@ some-is p n x h e = by-test (someBelow p n) (λ t. t) (λ t. clash e (none-below
 
 -- ONE CLUSTER MORE
 
-below-next : (x k : ℕ) → ltb x k || eqb x k ≡ ltb x (k + 1)
+pub below-next : (x k : ℕ) → ltb x (suc k) ≡ eqb x k || ltb x k
 below-next x k =
     by-test (eqb x k)
-    (λ e. rw (e, lt-ltb x (k + 1) (omega (arith, eqb-true x k e))) (or-true (ltb x k)))
+    (λ e. rw (e, lt-ltb x (suc k) (omega (arith, eqb-true x k e))))
     (λ e. by-test (ltb x k)
-    (λ f. rw (f, lt-ltb x (k + 1) (omega (arith, ltb-true x k f))))
-    (λ f. rw (e, f, le-ltb x (k + 1) (omega (arith, ltb-false x k f, eqb-false x k e)))))
+    (λ f. rw (e, f, lt-ltb x (suc k) (omega (arith, ltb-true x k f))))
+    (λ f. rw (e, f, le-ltb x (suc k) (omega (arith, ltb-false x k f, eqb-false x k e)))))
 
 -- those of the clusters below k that pass, and those of k
 pub union-next : (p : ℕ → Bool) (home : ℕ → ℕ) (k : ℕ)
     → unionOf (setOf maxClients (λ c. p c && ltb (home c) k)) (setOf maxClients (λ c. p c && eqb (home c) k))
-    ≡ setOf maxClients (λ c. p c && ltb (home c) (k + 1))
+    ≡ setOf maxClients (λ c. p c && ltb (home c) (suc k))
 union-next p home k =
     setOf-same maxClients _ _ (λ c l.
     rw (
@@ -52,8 +52,8 @@ union-next p home k =
       member-setOf maxClients (λ x. p x && eqb (home x) k) c l,
     ) (go (p c) c))
   where
-    go : (b : Bool) (c : ℕ) → (b && ltb (home c) k) || (b && eqb (home c) k) ≡ b && ltb (home c) (k + 1)
-    go true c = below-next (home c) k
+    go : (b : Bool) (c : ℕ) → (b && ltb (home c) k) || (b && eqb (home c) k) ≡ b && ltb (home c) (suc k)
+    go true c = or-comm (ltb (home c) k) (eqb (home c) k) ∙ sym (below-next (home c) k)
     go false c = refl
 
 pub union-none : (p : ℕ → Bool) (home : ℕ → ℕ) → 0 ≡ setOf maxClients (λ c. p c && ltb (home c) 0)

@@ -1,10 +1,10 @@
 -- Who waits, who is charged and what a charge becomes, over places, sets and priorities.
 -- Assumes nothing.
-use Prim.Native.Nat.{ℕ, _+_}
+use Prim.Native.Nat.{ℕ, zero, suc, _+_}
 use mathlib.Core.Bool.{Bool, _&&_, _||_, cond}
 use mathlib.Core.List.{List}
 use lib.Dec.{ltb}
-use lib.ListN.{getD}
+use lib.ListN.{getD, set}
 use Rattle.rules.specs.Limits.{maxClients, maxCharge}
 use Rattle.rules.specs.Lists.{has, countBelow}
 use Rattle.sets.specs.Sets.{member, setOf}
@@ -26,6 +26,11 @@ chargedIn ps waiting n m c = member waiting c && ltb (countBelow (precedesIn ps 
 abbrev pub overchargesIn : List ℕ → ℕ → ℕ → ℕ → Bool
 overchargesIn charges s n c = member s c && ltb maxCharge (getD charges c 0 + n)
 
--- the charge of c, with n units more if it is in the set and below m
-abbrev pub grown : List ℕ → ℕ → ℕ → ℕ → ℕ → ℕ
-grown charges s n m c = getD charges c 0 + cond (ltb c m && member s c) n 0
+-- the charges, with n units more for c if it is in the set
+abbrev pub grownAt : List ℕ → ℕ → ℕ → ℕ → List ℕ
+grownAt charges s n c = cond (member s c) (set charges c (getD charges c 0 + n)) charges
+
+-- the charges, with n units more for each client below m that is in the set
+abbrev pub grown : List ℕ → ℕ → ℕ → ℕ → List ℕ
+grown charges s n zero = charges
+grown charges s n (suc m) = grownAt (grown charges s n m) s n m

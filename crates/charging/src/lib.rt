@@ -1,14 +1,14 @@
-// Who is charged when units are served, as a set of clients that is made once, and the charges after.
+// Who is charged when units are served, as a set of clients that is made once, and the charges, which change in place.
 
+use gate::Client;
 use gate::Cluster;
 use gate::Gate;
 use gate::Line;
 ghost use mathlib.Core.Path.{_≡_};
-ghost use mathlib.Core.Bool.{true, false, _&&_, cond};
-ghost use Prim.Native.Nat.{ℕ, _+_, _≤_, _<_};
-ghost use lib.Dec.{eqb, ltb};
-ghost use lib.ListN.{length};
-ghost use Rattle.rules.specs.Limits.{maxClusters, maxClients, maxCap, maxCharge};
+ghost use mathlib.Core.Bool.{false, cond};
+ghost use Prim.Native.Nat.{_≤_, _<_};
+ghost use lib.ListN.{set};
+ghost use Rattle.rules.specs.Limits.{maxClusters, maxClients};
 ghost use Rattle.rules.specs.Lists.{someBelow};
 ghost use Rattle.rules.specs.State.{State};
 ghost use Rattle.rules.specs.Rank.{outranks};
@@ -16,10 +16,9 @@ ghost use Rattle.rules.specs.Events.{charged};
 ghost use Rattle.rules.specs.Sound.{Sound};
 ghost use Rattle.sets.specs.Sets.{setOf, withOf};
 ghost use Rattle.gate.specs.declared.Setup as given;
-ghost use Rattle.gate.specs.Shown.{setupOf, table};
-ghost use Rattle.gate.specs.Shows.{Fine, Shows};
-ghost use Rattle.moves.specs.Parts.{putServer, putCharges};
-ghost use Rattle.charging.specs.Charged.{waitingIn, precedesIn, chargedIn, overchargesIn, grown};
+ghost use Rattle.gate.specs.Shown.{setupOf, showRooms};
+ghost use Rattle.gate.specs.Shows.{ShowsLines};
+ghost use Rattle.charging.specs.Charged.{waitingIn, precedesIn, chargedIn, overchargesIn, grownAt, grown};
 
 // WHO WAITS
 
@@ -40,22 +39,22 @@ fn waiting_in(l: Line, room: u64) -> u64
 // WHO OUTRANKS
 
 // The set, with d if it waits and outranks c.
-fn with_higher(priorities: &[u16], waiting: u64, c: usize, d: usize, s: u64) -> u64
-    requires { ⌜ (length (now priorities) ≡ maxClients) × (c < maxClients) × (d < maxClients) ⌝ }
+fn with_higher(priorities: &[u16; 64], waiting: u64, c: usize, d: usize, s: u64) -> u64
+    requires { ⌜ (c < maxClients) × (d < maxClients) ⌝ }
     ensures { λ r. ⌜ r ≡ cond (precedesIn (now (priorities .entry)) waiting c d) (withOf s d) s ⌝ }
 {
     if !sets::member(waiting, d) {
         return s;
     }
-    if rows::outranks(priorities[d], d, priorities[c], c) {
+    if rows::outranks(priorities, d, c) {
         return sets::with(s, d);
     }
     s
 }
 
 // The waiting clients below n that outrank c.
-fn outranking(priorities: &[u16], waiting: u64, c: usize, n: usize) -> u64
-    requires { ⌜ (length (now priorities) ≡ maxClients) × (c < maxClients) × (n ≤ maxClients) ⌝ }
+fn outranking(priorities: &[u16; 64], waiting: u64, c: usize, n: usize) -> u64
+    requires { ⌜ (c < maxClients) × (n ≤ maxClients) ⌝ }
     ensures { λ r. ⌜ r ≡ setOf n (precedesIn (now (priorities .entry)) waiting c) ⌝ }
 {
     let mut s: u64 = 0;
@@ -70,8 +69,8 @@ fn outranking(priorities: &[u16], waiting: u64, c: usize, n: usize) -> u64
 // WHO IS CHARGED
 
 // The set, with c if it waits and fewer than m of the waiting clients below n outrank it.
-fn with_charged(priorities: &[u16], waiting: u64, n: usize, m: usize, c: usize, s: u64) -> u64
-    requires { ⌜ (length (now priorities) ≡ maxClients) × (c < maxClients) × (n ≤ maxClients) ⌝ }
+fn with_charged(priorities: &[u16; 64], waiting: u64, n: usize, m: usize, c: usize, s: u64) -> u64
+    requires { ⌜ (c < maxClients) × (n ≤ maxClients) ⌝ }
     ensures { λ r. ⌜ r ≡ cond (chargedIn (now (priorities .entry)) waiting n m c) (withOf s c) s ⌝ }
 {
     if !sets::member(waiting, c) {
@@ -84,8 +83,8 @@ fn with_charged(priorities: &[u16], waiting: u64, n: usize, m: usize, c: usize, 
 }
 
 // The charged clients below n of a cluster of size m.
-fn charged_among(priorities: &[u16], waiting: u64, n: usize, m: usize) -> u64
-    requires { ⌜ (length (now priorities) ≡ maxClients) × (n ≤ maxClients) ⌝ }
+fn charged_among(priorities: &[u16; 64], waiting: u64, n: usize, m: usize) -> u64
+    requires { ⌜ n ≤ maxClients ⌝ }
     ensures { λ r. ⌜ r ≡ setOf n (chargedIn (now (priorities .entry)) waiting n m) ⌝ }
 {
     let mut s: u64 = 0;
@@ -97,40 +96,28 @@ fn charged_among(priorities: &[u16], waiting: u64, n: usize, m: usize) -> u64
     s
 }
 
-// The charged clients of a cluster.
-fn charged_of(g: Gate, k: Cluster) -> u64
-    requires { ⌜ (k .0 < maxClusters) × Fine (g .setup) ⌝ }
-    ensures { λ r.
-        ⌜ ((v : given.Setup) (s : State) → Shows v s g → Sound (setupOf v) s
-        → r ≡ setOf maxClients (λ (c : ℕ). charged (setupOf v) (outranks (setupOf v) s) s c
-        && eqb (setupOf v .cluster c) (k .0))) ⌝ }
-{
-    let i = k.0;
-    let line = g.lines[i];
-    let room = g.rooms[i];
-    let setup = g.setup;
-    let priorities = setup.priorities;
-    let m = rows::size(setup, k);
-    charged_among(
-        &priorities,
-        waiting_in(line, room),
-        gate::wide(setup.clients),
-        m,
-    )
-}
-
 // The charged clients.
-pub fn charged(g: Gate) -> u64
-    requires { ⌜ Fine (g .setup) × (g .setup .clusters ≤ maxClusters) ⌝ }
+pub fn charged(
+    lines: [Line; 8],
+    rooms: &[u64; 8],
+    sizes: &[u8; 8],
+    priorities: &[u16; 64],
+    clusters: usize,
+    clients: usize,
+) -> u64
+    requires { ⌜ (clusters ≤ maxClusters) × (clients ≤ maxClients) ⌝ }
     ensures { λ r.
-        ⌜ ((v : given.Setup) (s : State) → Shows v s g → Sound (setupOf v) s
+        ⌜ ((v : given.Setup) (s : State) → now (sizes .entry) ≡ v .sizes → now (priorities .entry) ≡ v .priorities
+        → clusters ≡ v .clusters → clients ≡ v .clients → ShowsLines (s .lines) lines
+        → now (rooms .entry) ≡ showRooms (setupOf v .cluster) (s .room) → Sound (setupOf v) s
         → r ≡ setOf maxClients (charged (setupOf v) (outranks (setupOf v) s) s)) ⌝ }
 {
-    let n = gate::wide(g.setup.clusters);
     let mut s: u64 = 0;
     let mut k: usize = 0;
-    while k < n {
-        s = sets::union(s, charged_of(g, Cluster(k)));
+    while k < clusters {
+        let waiting = waiting_in(lines[k], rooms[k]);
+        let m = rows::size(sizes, Cluster(k));
+        s = sets::union(s, charged_among(priorities, waiting, clients, m));
         k += 1;
     }
     s
@@ -138,21 +125,15 @@ pub fn charged(g: Gate) -> u64
 
 // CHARGES
 
-// Whether a charge and n units more pass the limit.
-fn passes_limit(charge: u32, n: u16) -> bool
-    ensures { λ r. ⌜ r ≡ ltb maxCharge (charge + n) ⌝ }
+// Whether c is in the set, and n units more would carry its charge past the limit.
+fn overcharged(charges: &[u32; 64], set: u64, n: u16, c: usize) -> bool
+    requires { ⌜ c < maxClients ⌝ }
+    ensures { λ r. ⌜ r ≡ overchargesIn (now (charges .entry)) set n c ⌝ }
 {
-    Gate::MAX_CHARGE - (n as u32) < charge
-}
-
-// Whether a client in the set would pass the limit.
-fn overcharged(charge: u32, inside: bool, n: u16) -> bool
-    ensures { λ r. ⌜ r ≡ (inside && ltb maxCharge (charge + n)) ⌝ }
-{
-    if inside {
-        return passes_limit(charge, n);
+    if !sets::member(set, c) {
+        return false;
     }
-    false
+    Gate::MAX_CHARGE - (n as u32) < charges[c]
 }
 
 // Whether n units more would carry the charge of one of the clients in the set past the limit.
@@ -162,7 +143,7 @@ pub fn overcharges(charges: &[u32; 64], set: u64, n: u16, clients: usize) -> boo
 {
     let mut c: usize = 0;
     while c < clients {
-        if overcharged(charges[c], sets::member(set, c), n) {
+        if overcharged(charges, set, n, c) {
             return true;
         }
         c += 1;
@@ -170,43 +151,32 @@ pub fn overcharges(charges: &[u32; 64], set: u64, n: u16, clients: usize) -> boo
     false
 }
 
-// A charge, with n units more for a client in the set.
-fn charge_after(charge: u32, inside: bool, n: u16) -> u32
-    requires { ⌜ (inside ≡ true → charge + n ≤ maxCharge) ⌝ }
-    ensures { λ r. ⌜ r ≡ charge + cond inside n 0 ⌝ }
+// The charge of c grows by n, if c is in the set.
+fn charge_at(charges: &mut [u32; 64], set: u64, n: u16, c: usize)
+    requires { ⌜ (c < maxClients) × (overchargesIn (now charges) set n c ≡ false) ⌝ }
+    ensures { λ r. ⌜ now (charges .exit) ≡ grownAt (now (charges .entry)) set n c ⌝ }
 {
-    if inside {
-        return charge + (n as u32);
+    if sets::member(set, c) {
+        charges[c] = charges[c] + (n as u32);
     }
-    charge
 }
 
-// The charges, with n units more for each client in the set.
-fn charges_after(charges: [u32; 64], set: u64, n: u16, clients: usize) -> [u32; 64]
-    requires { ⌜ (clients ≤ maxClients) × (someBelow (overchargesIn charges set n) clients ≡ false) ⌝ }
-    ensures { λ r. ⌜ r ≡ table maxClients (grown charges set n clients) ⌝ }
+// The charge of each client in the set grows by n.
+pub fn charge(charges: &mut [u32; 64], set: u64, n: u16, clients: usize)
+    requires { ⌜ (clients ≤ maxClients) × (someBelow (overchargesIn (now charges) set n) clients ≡ false) ⌝ }
+    ensures { λ r. ⌜ now (charges .exit) ≡ grown (now (charges .entry)) set n clients ⌝ }
 {
-    let mut cs = charges;
     let mut c: usize = 0;
     while c < clients {
-        cs[c] = charge_after(cs[c], sets::member(set, c), n);
+        charge_at(charges, set, n, c);
         c += 1;
     }
-    cs
 }
 
-// Run n. Units served grow by n. The charge of each client in the set grows by n.
-pub fn ran(g: Gate, set: u64, n: u16) -> Gate
-    requires { ⌜ (g .setup .clients ≤ maxClients) × (g .units + n ≤ maxCap)
-        × (someBelow (overchargesIn (g .charges) set n) (g .setup .clients) ≡ false) ⌝ }
-    ensures { λ r.
-        ⌜ r ≡ putCharges (table maxClients (grown (g .charges) set n (g .setup .clients)))
-        (putServer (g .server) (g .units + n) g) ⌝ }
+// The charge of c becomes 0.
+pub fn reset(charges: &mut [u32; 64], c: Client)
+    requires { ⌜ c .0 < maxClients ⌝ }
+    ensures { λ r. ⌜ now (charges .exit) ≡ set (now (charges .entry)) (c .0) 0 ⌝ }
 {
-    let charges = g.charges;
-    let after = charges_after(charges, set, n, gate::wide(g.setup.clients));
-    let mut r = g;
-    r.charges = after;
-    r.units = g.units + (n as u32);
-    r
+    charges[rows::index(c)] = 0;
 }

@@ -1,45 +1,47 @@
 -- `charging::charged` meets its contract: the loop holds the charged clients of the clusters passed.
 -- Assumes nothing.
 use Prim.Native.Nat.{_-_, _≤_}
-use mathlib.Core.Bool.{_&&_}
-use mathlib.Core.Path.{_∙_, _≡_, ap, ap₂}
+use mathlib.Core.Path.{_∙_, _≡_, refl}
+use native.Mathlib.Numerals.{add-one}
 use native.Mathlib.Omega.{arith}
-use lib.Dec.{ltb}
+use lib.ListN.{length}
 use borrow.Author.Needs.{needs}
-use Rattle.rules.specs.Events.{charged}
-use Rattle.rules.specs.Rank.{outranks}
-use Rattle.rules.specs.Sound.{Sound}
-use Rattle.rules.specs.State.{State}
-use Rattle.sets.specs.Sets.{setOf, unionOf}
-use Rattle.gate.specs.Shown.{setupOf}
-use Rattle.gate.specs.Shows.{Shows}
-use Rattle.gate.specs.declared.Setup.{Setup}
-use Rattle.charging.proofs.Building.{union-all, union-next, union-none}
-use Rattle.charging.proofs.Charging.{charged-home}
+use Rattle.gate.specs.Shown.{blankLine}
+use Rattle.charging.proofs.Charging.{charged-all, chargedBelow}
 use Rattle.charging.proofs.charged.Statement.{statement}
 use Rattle.charging.proofs.charged.Tie as tie
 
 abbrev Inv-loop : tie.InvT-loop
-Inv-loop g n s₀ k₀ s k =
-    (k ≤ n) × (n ≡ g .setup .clusters) × ((v : Setup) (t : State) → Shows v t g → Sound (setupOf v) t
-    → s ≡ setOf 64 (λ c. charged (setupOf v) (outranks (setupOf v) t) t c && ltb (setupOf v .cluster c) k))
+Inv-loop rooms sizes priorities clusters clients lines s₀ k₀ s k =
+    (k ≤ clusters) × (clusters ≤ 8) × (clients ≤ 64) × (length lines ≡ 8)
+    × (s ≡ chargedBelow blankLine lines rooms sizes priorities clients k)
 
 abbrev μ-loop : tie.MeasureT-loop
-μ-loop g n s₀ k₀ s k = n - k
-
-wide-requires : tie.Need-wide-requires Inv-loop μ-loop
-wide-requires c κs = search needs
+μ-loop rooms sizes priorities clusters clients lines s₀ k₀ s k = clusters - k
 
 loop-holds : tie.Need-loop-holds Inv-loop μ-loop
-loop-holds c = (
-  omega arith,
-  c .wide .ensures,
-  λ v t h sound. union-none (charged (setupOf v) (outranks (setupOf v) t) t)
-      (setupOf v .cluster),
-)
+loop-holds c = (omega arith, c .pre .0, c .pre .1, search needs, refl)
 
-charged-of-requires : tie.Need-charged-of-requires Inv-loop μ-loop
-charged-of-requires c κs = (omega arith, c .before .before .before .pre .0)
+mul-waiting-in : tie.Need-mul-waiting-in Inv-loop μ-loop
+mul-waiting-in c = omega arith
+
+array-copy-out-waiting-in : tie.Need-array-copy-out-waiting-in Inv-loop μ-loop
+array-copy-out-waiting-in c = omega arith
+
+mul-waiting-in-2 : tie.Need-mul-waiting-in-2 Inv-loop μ-loop
+mul-waiting-in-2 c = omega arith
+
+element-copy-out-waiting-in : tie.Need-element-copy-out-waiting-in Inv-loop μ-loop
+element-copy-out-waiting-in c = omega arith
+
+waiting-in-requires : tie.Need-waiting-in-requires Inv-loop μ-loop
+waiting-in-requires c κs = search needs
+
+size-requires : tie.Need-size-requires Inv-loop μ-loop
+size-requires c κs = omega arith
+
+charged-among-requires : tie.Need-charged-among-requires Inv-loop μ-loop
+charged-among-requires c κs = search needs
 
 union-requires : tie.Need-union-requires Inv-loop μ-loop
 union-requires c κs = search needs
@@ -52,22 +54,18 @@ loop-less c = omega arith
 
 loop-again : tie.Need-loop-again Inv-loop μ-loop
 loop-again c =
-    let l = c .before .before .before .loop in (
-      omega arith,
-      l .inv .1,
-      λ v t h sound. c .union .ensures
-          ∙ ap₂ (λ x y. unionOf x y) (l .inv .2 v t h sound) (c .before .charged-of .ensures v t h sound)
-          ∙ union-next (charged (setupOf v) (outranks (setupOf v) t) t) (setupOf v .cluster) (l .k),
-    )
+    let z = c .before .before in
+    let w = z .before in
+    let l = w .before .before .before .before .loop in
+    let e = rw (w .waiting-in .ensures, z .size .ensures) at (c .before .charged-among .ensures) in
+    (omega arith, l .inv .1, l .inv .2, l .inv .3, rw (add-one (l .k), ← l .inv .4, ← e) (c .union .ensures))
 
 returns : tie.Need-returns Inv-loop μ-loop
 returns c =
     let l = c .before .loop in
-    λ v t h sound.
-    let p = charged (setupOf v) (outranks (setupOf v) t) t in
-    let e : l .k ≡ v .clusters = omega (arith, l .inv .1, ap (λ u. u .clusters) (h .setup)) in
-    l .inv .2 v t h sound ∙ ap (λ k. setOf 64 (λ c. p c && ltb (setupOf v .cluster c) k)) e
-    ∙ union-all p (setupOf v .cluster) (v .clusters) (charged-home h sound)
+    let e : l .k ≡ c .before .before .args .clusters = omega arith in
+    λ v s ms ps ks cs lines rooms sound.
+    l .inv .4 ∙ rw (e, ms, ps, ks, cs) (charged-all v sound lines rooms blankLine)
 
 pub charged-spec : {M : Type 1} → statement M
 charged-spec =
@@ -75,9 +73,14 @@ charged-spec =
     (tie.spec
     Inv-loop
     μ-loop
-    wide-requires
     loop-holds
-    charged-of-requires
+    mul-waiting-in
+    array-copy-out-waiting-in
+    mul-waiting-in-2
+    element-copy-out-waiting-in
+    waiting-in-requires
+    size-requires
+    charged-among-requires
     union-requires
     add-k
     loop-less

@@ -1,12 +1,10 @@
 -- `charging::charged_among` meets its contract: the loop holds those of the clients passed.
 -- Assumes nothing.
 use Prim.Native.Nat.{_-_, _≤_}
-use mathlib.Core.Bool.{cond}
 use mathlib.Core.Path.{_∙_, _≡_, ap, refl}
 use native.Mathlib.Omega.{arith}
-use lib.ListN.{length}
 use borrow.Author.Needs.{needs}
-use Rattle.sets.specs.Sets.{setOf, withOf}
+use Rattle.sets.specs.Sets.{setOf}
 use Rattle.charging.specs.Charged.{chargedIn}
 use Rattle.charging.proofs.Building.{with-more}
 use Rattle.charging.proofs.charged_among.Statement.{statement}
@@ -14,14 +12,14 @@ use Rattle.charging.proofs.charged_among.Tie as tie
 
 abbrev Inv-loop : tie.InvT-loop
 Inv-loop priorities waiting n m s₀ c₀ s c =
-    (c ≤ n) × (n ≤ 64) × (length priorities ≡ 64) × (s ≡ setOf c (chargedIn priorities waiting n m))
+    (c ≤ n) × (n ≤ 64) × (s ≡ setOf c (chargedIn priorities waiting n m))
 
 abbrev μ-loop : tie.MeasureT-loop
 μ-loop priorities waiting n m s₀ c₀ s c = n - c
 
 loop-holds : tie.Need-loop-holds Inv-loop μ-loop
 unfolding setOf
-loop-holds c = let p = c .before .pre in (omega arith, p .1, p .0, refl)
+loop-holds c = (omega arith, c .pre, refl)
 
 with-charged-requires : tie.Need-with-charged-requires Inv-loop μ-loop
 with-charged-requires c κs = search needs
@@ -35,20 +33,13 @@ loop-less c = omega arith
 loop-again : tie.Need-loop-again Inv-loop μ-loop
 loop-again c =
     let l = c .before .before .loop in
-    let a = c .before .before .before .before .args in
-    let p = chargedIn (a .priorities .now) (a .waiting) (a .n) (a .m) in (
-      omega arith,
-      l .inv .1,
-      l .inv .2,
-      c .with-charged .ensures ∙ ap (λ x. cond (p (l .c)) (withOf x (l .c)) x) (l .inv .3)
-          ∙ with-more (l .c) p (omega arith),
-    )
+    (omega arith, l .inv .1, rw (c .with-charged .ensures, l .inv .2) (with-more (l .c) _ (omega arith)))
 
 returns : tie.Need-returns Inv-loop μ-loop
 returns c =
     let l = c .before .loop in
-    let a = c .before .before .before .args in
-    l .inv .3 ∙ ap (λ x. setOf x (chargedIn (a .priorities .now) (a .waiting) (a .n) (a .m))) (omega arith)
+    let a = c .before .before .args in
+    l .inv .2 ∙ ap (λ x. setOf x (chargedIn (a .priorities .now) (a .waiting) (a .n) (a .m))) (omega arith)
 
 pub charged-among-spec : {M : Type 1} → statement M
 charged-among-spec =

@@ -3,8 +3,6 @@
 use native.Mathlib.Omega.{arith}
 use borrow.Author.Needs.{needs}
 use borrow.Author.Tests.{le-ltb, lt-ltb, not-false, not-true}
-use Rattle.rules.specs.Lists.{countBelow}
-use Rattle.charging.specs.Charged.{precedesIn}
 use Rattle.charging.proofs.Building.{counted}
 use Rattle.charging.proofs.with_charged.Statement.{statement}
 use Rattle.charging.proofs.with_charged.Tie as tie
@@ -28,30 +26,21 @@ with-requires c κs = search needs
 
 returns-2 : tie.Need-returns-2
 returns-2 c =
-    let d = c .before .before .before .before in
+    let o = c .before .before .before in
+    let d = o .before in
     let m = d .before .member in
-    let a = d .before .before .before .args in
-    let p = precedesIn (a .priorities .now) (a .waiting) (a .c) in
-    let e = counted (a .n) p (omega arith) (c .before .before .before .outranking .ensures)
+    let e = counted (d .before .before .args .n) _ (omega arith) (o .outranking .ensures)
     (c .before .before .count .ensures) in
-    rw (
-      ← m .ensures,
-      not-false (m .result) (d .if1 .left),
-      lt-ltb (countBelow p (a .n)) (a .m) (omega (arith, e, c .before .if2 .taken)),
-    ) (c .with .ensures)
+    rw (← m .ensures, not-false (m .result) (d .if1 .left), ← e, lt-ltb _ _ (c .before .if2 .taken))
+    (c .with .ensures)
 
 returns-3 : tie.Need-returns-3
 returns-3 c =
-    let d = c .before .before .before in
+    let o = c .before .before in
+    let d = o .before in
     let m = d .before .member in
-    let a = d .before .before .before .args in
-    let p = precedesIn (a .priorities .now) (a .waiting) (a .c) in
-    let e = counted (a .n) p (omega arith) (c .before .before .outranking .ensures) (c .before .count .ensures) in
-    rw (
-      ← m .ensures,
-      not-false (m .result) (d .if1 .left),
-      le-ltb (countBelow p (a .n)) (a .m) (omega (arith, e, c .if2 .left)),
-    )
+    let e = counted (d .before .before .args .n) _ (omega arith) (o .outranking .ensures) (c .before .count .ensures) in
+    rw (← m .ensures, not-false (m .result) (d .if1 .left), ← e, le-ltb _ _ (c .if2 .left))
 
 pub with-charged-spec : {M : Type 1} → statement M
 with-charged-spec =
