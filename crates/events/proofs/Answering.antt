@@ -3,11 +3,11 @@
 use Prim.Native.Nat.{ℕ, _+_}
 use mathlib.Core.Bool.{Bool, _&&_, cond, false, true}
 use mathlib.Core.List.{List}
-use mathlib.Core.Path.{_∙_, _≡_, sym}
+use mathlib.Core.Path.{_∙_, _≡_, refl, sym}
 use native.Mathlib.Omega.{arith}
 use lib.Dec.{eqb}
 use lib.ListN.{getD, set}
-use borrow.Author.Tests.{eq-eqb, eqb-true, ne-eqb}
+use borrow.Author.Tests.{eq-eqb, eqb-false, eqb-true, ne-eqb}
 use Rattle.rules.specs.Events.{Event, abort, invoke, ran, reply}
 use Rattle.rules.specs.Limits.{maxClients}
 use Rattle.rules.specs.Lists.{upd}
@@ -66,12 +66,12 @@ module _ {v : Setup} {s : State} {q : Queues} {cs : List ℕ} (h : Holds v s q c
           → cond (eqb d c && realTime (setupOf v) c) 0 (s .charge c + 0) ≡ upd (s .charge) d 0 c
       here c r =
           by-test (eqb d c)
-          (λ e. rw (← eqb-true d c e, r, eq-eqb d d _))
-          (λ e. rw e)
+          (λ e. rw (← eqb-true d c e, r, eq-eqb d d refl))
+          (λ e. rw (e, ne-eqb c d (λ q. eqb-false d c e (sym q))) (omega arith))
 
       away : (c : ℕ) → realTime (setupOf v) d ≡ false
           → cond (eqb d c && realTime (setupOf v) c) 0 (s .charge c + 0) ≡ s .charge c
-      away c r = by-test (eqb d c) (λ e. rw (← eqb-true d c e, r) (omega arith)) (λ e. rw e (omega arith))
+      away c r = by-test (eqb d c) (λ e. rw (← eqb-true d c e, eq-eqb d d refl, r) (omega arith)) (λ e. rw e (omega arith))
 
 -- an accepted event
 pub accepts : {v : Setup} {s : State} (e : Event) {r : Queues} {cs : List ℕ} → answer (setupOf v) s e ≡ accepted

@@ -1,5 +1,4 @@
--- What the events' proofs stand on: the answers, and that a gate that shows a sound state is usable; and that no
--- second answer fits.
+-- What the events' proofs stand on: the answers, and the parts after; and that no second answer fits.
 pub mod Answering
 pub mod Refusing
 pub mod Only

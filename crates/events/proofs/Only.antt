@@ -2,20 +2,19 @@
 -- Assumes nothing.
 use Prim.Native.Nat.{ℕ}
 use mathlib.Core.Bool.{cond}
+use mathlib.Core.List.{List}
 use mathlib.Core.Path.{_∙_, _≡_, ap, ap₂, refl, sym}
 use lib.Dec.{eqb}
 use Rattle.rules.specs.Events.{Event}
 use Rattle.rules.specs.Refusals.{accepted, bestEffort, noClient, notWaiting, runOfNone, runPastCap, serverIdle}
 use Rattle.rules.specs.Refusals.{spentAlready, unknownRecord, waitsAlready}
 use Rattle.rules.specs.State.{State}
-use Rattle.rules.specs.Step.{answer, step}
-use Rattle.gate.specs.Shown.{setupOf, shown}
-use Rattle.gate.specs.declared.Gate.{Gate}
+use Rattle.gate.specs.declared.Queues.{Queues}
 use Rattle.gate.specs.declared.Setup.{Setup}
-use Rattle.gate.proofs.Reading.{shows-is}
+use Rattle.gate.proofs.Reading.{one-queues}
 use Rattle.events.specs.Answers.{Answers, numberOf}
 use Rattle.events.specs.declared.Answer.{Answer}
-use Rattle.events.specs.declared.Answered.{Answered}
+use Rattle.events.specs.declared.Outcome.{Outcome}
 use Rattle.events.specs.declared.Answer.the-variants as is
 
 -- the case of a number; of a number that no case has, any
@@ -51,12 +50,11 @@ number-back is.Unsound = refl
 pub one-answer : (a b : Answer) → numberOf a ≡ numberOf b → a ≡ b
 one-answer a b e = sym (number-back a) ∙ ap answerFor e ∙ number-back b
 
--- the gate after is the shown form of the state after
-pub gate-is : {v : Setup} {s : State} {e : Event} {r : Answered} → Answers v s e r
-    → r .gate ≡ shown v (step (setupOf v) s e)
-gate-is {v} {s} {e} {r} h = shows-is v (step (setupOf v) s e) (r .gate) (h .shows)
-
-pub one-result : {v : Setup} {s : State} {e : Event} (r t : Answered) → Answers v s e r → Answers v s e t → r ≡ t
-one-result r t h k =
-    ap₂ (λ (a : Answer) (g : Gate). record { answer = a; gate = g })
-    (one-answer (r .answer) (t .answer) (h .number ∙ sym (k .number))) (gate-is h ∙ sym (gate-is k))
+pub one-result : {v : Setup} {s : State} {e : Event} (r t : Outcome) {cs ds : List ℕ} → Answers v s e r cs
+    → Answers v s e t ds → (r ≡ t) × (cs ≡ ds)
+one-result r t h k = (
+  ap₂ (λ (a : Answer) (q : Queues). record { answer = a; queues = q })
+      (one-answer (r .answer) (t .answer) (h .number ∙ sym (k .number)))
+      (one-queues (r .queues) (t .queues) (h .queues) (k .queues)),
+  h .charges ∙ sym (k .charges),
+)

@@ -20,7 +20,7 @@ use Rattle.gate.specs.declared.Setup.{Setup}
 use Rattle.events.specs.Answers.{Answers, Charges}
 use Rattle.events.specs.declared.Outcome.{Outcome}
 
-module _ {v : Setup} {s : State} where
+module _ (v : Setup) (s : State) where
   -- INVOKE
 
   module _ (c : ℕ) {n i : ℕ} (clients : n ≡ v .clients) (index : i ≡ c) where

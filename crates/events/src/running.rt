@@ -46,7 +46,8 @@ fn charged<'a>(
     }
     charging::charge(charges, set, n, clients);
     let y = q.service;
-    let r = moves::served(q, y.server, y.units + (n as u32));
+    let server = y.server;
+    let r = moves::served(q, server, y.units + (n as u32));
     Outcome {
         answer: Answer::Accepted,
         queues: r,

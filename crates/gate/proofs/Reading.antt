@@ -21,11 +21,12 @@ use Rattle.gate.specs.declared.Line.{Line}
 use Rattle.gate.specs.declared.Server.{Server}
 use Rattle.gate.specs.declared.Server.the-variants.{Idle, Front, Best, Spent}
 use Rattle.gate.specs.declared.Setup.{Setup}
+use Rattle.gate.specs.declared.Queues.{Queues}
 use Rattle.gate.specs.declared.Gate.{Gate}
 use Rattle.gate.specs.Parts.{service, queues, gateOf}
 use Rattle.gate.specs.Shown.{setupOf, serverOf, blankLine, stateOf}
 use Rattle.gate.specs.Shown.{table, showServer, showLines, showRooms, shown}
-use Rattle.gate.specs.Shows.{Fine, Fits, ServerFits, ShowsList, Shows, Within}
+use Rattle.gate.specs.Shows.{Fine, Fits, ServerFits, ShowsList, ShowsQueues, Shows, Within}
 use Rattle.gate.proofs.Tables.{table-at, table-past, table-same, list-table}
 
 -- PARTS
@@ -49,6 +50,20 @@ shows-is v s g h =
     let q = h .queues in
     same-gate (h .setup) (q .lines .places) (q .rooms) (q .global .places) (q .background .places)
     (sym (show-server (g .server)) ∙ ap showServer (q .service .server)) (q .service .units) (h .charges)
+
+-- queues that show the same are the same
+pub one-queues : {v : Setup} {s : State} (p q : Queues) → ShowsQueues v s p → ShowsQueues v s q → p ≡ q
+one-queues p q h k =
+    same (h .lines .places ∙ sym (k .lines .places)) (h .rooms ∙ sym (k .rooms))
+    (h .global .places ∙ sym (k .global .places)) (h .background .places ∙ sym (k .background .places))
+    (sym (show-server (p .service .server)) ∙ ap showServer (h .service .server ∙ sym (k .service .server))
+    ∙ show-server (q .service .server))
+    (h .service .units ∙ sym (k .service .units))
+  where
+    same : {b b′ : List Line} {c c′ d d′ e e′ : List ℕ} {f f′ : Server} {g g′ : ℕ}
+        → b ≡ b′ → c ≡ c′ → d ≡ d′ → e ≡ e′ → f ≡ f′ → g ≡ g′
+        → queues b c d e (service f g) ≡ queues b′ c′ d′ e′ (service f′ g′)
+    same q r s t u v = rw (q, r, s, t, u, v)
 
 fits-unpad : (n : ℕ) (l : List ℕ) → Fits n l → unpad (pad n l) ≡ l
 fits-unpad n l f = unpad-pad n l (no-unused l (λ x e. omega (arith, f .used x e))) (f .short)

@@ -1,4 +1,4 @@
--- A gate's parts: the queues with the one in service, and the gate of a setup, queues and charges.
+-- A gate's parts: the setup, the queues with the one in service, the charges; and the gate of them.
 -- Assumes nothing.
 use Prim.Native.Nat.{ℕ}
 use mathlib.Core.List.{List}
@@ -15,6 +15,18 @@ service x n = record { server = x; units = n }
 
 abbrev pub queues : List Line → List ℕ → List ℕ → List ℕ → Service → Queues
 queues ls rs gl bg y = record { lines = ls; rooms = rs; global = gl; background = bg; service = y }
+
+-- the setup of K, N, L and the columns of the table
+abbrev pub setupWith : ℕ → ℕ → ℕ → List ℕ → List ℕ → List ℕ → List ℕ → Setup
+setupWith k n l ms ts hs ps = record {
+  clusters = k;
+  clients = n;
+  cap = l;
+  sizes = ms;
+  kinds = ts;
+  homes = hs;
+  priorities = ps;
+}
 
 abbrev pub queuesOf : Gate → Queues
 queuesOf g = queues (g .lines) (g .rooms) (g .global) (g .background) (service (g .server) (g .units))

@@ -1,44 +1,135 @@
 // The public door of the gate: one event or one raw record on any gate whatever, with the check of soundness. Beside it
-// the inner door for callers that hold a sound gate: the same without the check, and it keeps soundness.
+// the inner door for callers that hold the parts of a sound gate: the same without the check, and it keeps soundness.
 
 use events::Answer;
-use events::Answered;
+use events::Outcome;
 use gate::Event;
 use gate::Gate;
 use gate::Heard;
+use gate::Queues;
 use gate::heard_in;
 ghost use mathlib.Core.Path.{_≡_};
 ghost use mathlib.Core.Bool.{true};
 ghost use mathlib.Core.Option.{some};
+ghost use lib.ListN.{length};
+ghost use Rattle.rules.specs.Limits.{maxClients};
 ghost use Rattle.rules.specs.Records.{eventOf};
 ghost use Rattle.gate.specs.Heard.{eventIn, heardIn};
-ghost use Rattle.soundness.specs.Clauses.{soundOf};
-ghost use Rattle.step.specs.Stepped.{toldIn, stepped};
+ghost use Rattle.gate.specs.Parts.{setupWith};
+ghost use Rattle.step.specs.Stepped.{toldIn, stepped, Stands, Steps};
 
-// An event on a sound gate.
-pub fn sound_step(g: Gate, e: Event) -> Answered
-    requires { ⌜ soundOf g ≡ true ⌝ }
-    ensures { λ r. ⌜ (toldIn r ≡ stepped g (some (eventIn e))) × (soundOf (r .gate) ≡ true) ⌝ }
+// The answer, and the gate after.
+pub struct Answered {
+    pub answer: Answer,
+    pub gate: Gate,
+}
+
+// THE INNER DOOR
+
+// An event on the parts of a sound gate.
+pub fn sound_step<'a>(
+    q: Queues,
+    clusters: u8,
+    clients: u8,
+    cap: u16,
+    sizes: &'a [u8; 8],
+    kinds: &'a [u8; 64],
+    homes: &'a [u8; 64],
+    priorities: &'a [u16; 64],
+    charges: &mut [u32; 64],
+    e: Event,
+) -> Outcome
+    requires { ⌜ length (now homes) ≡ maxClients ⌝ }
+    requires { ⌜ Stands (setupWith clusters clients cap (now sizes) (now kinds) (now homes) (now priorities)) q
+        (now charges) ⌝ }
+    ensures { λ r.
+        ⌜ Steps (setupWith clusters clients cap (now (sizes .entry)) (now (kinds .entry)) (now (homes .entry))
+        (now (priorities .entry))) q (now (charges .entry)) (some (eventIn e)) r (now (charges .exit)) ⌝ }
 {
+    let n = gate::wide(clients);
     match e {
-        Event::Invoke(c) => events::invoke(g, c),
-        Event::Run(n) => events::run(g, n),
-        Event::Reply => events::reply(g),
-        Event::Abort(c) => events::abort(g, c),
+        Event::Invoke(c) => events::invoke(q, kinds, homes, sizes, n, charges, c),
+        Event::Run(t) => events::run(
+            q,
+            sizes,
+            priorities,
+            gate::wide(clusters),
+            n,
+            cap,
+            charges,
+            t,
+        ),
+        Event::Reply => events::reply(q, homes, sizes, priorities, n),
+        Event::Abort(c) => events::abort(q, kinds, homes, sizes, priorities, n, c),
     }
 }
 
-// What a record says, on a sound gate.
-pub fn sound_record(g: Gate, h: Heard) -> Answered
-    requires { ⌜ soundOf g ≡ true ⌝ }
-    ensures { λ r. ⌜ (toldIn r ≡ stepped g (heardIn h)) × (soundOf (r .gate) ≡ true) ⌝ }
+// What a record says, on the parts of a sound gate.
+pub fn sound_record<'a>(
+    q: Queues,
+    clusters: u8,
+    clients: u8,
+    cap: u16,
+    sizes: &'a [u8; 8],
+    kinds: &'a [u8; 64],
+    homes: &'a [u8; 64],
+    priorities: &'a [u16; 64],
+    charges: &mut [u32; 64],
+    h: Heard,
+) -> Outcome
+    requires { ⌜ length (now homes) ≡ maxClients ⌝ }
+    requires { ⌜ Stands (setupWith clusters clients cap (now sizes) (now kinds) (now homes) (now priorities)) q
+        (now charges) ⌝ }
+    ensures { λ r.
+        ⌜ Steps (setupWith clusters clients cap (now (sizes .entry)) (now (kinds .entry)) (now (homes .entry))
+        (now (priorities .entry))) q (now (charges .entry)) (heardIn h) r (now (charges .exit)) ⌝ }
 {
     match h {
-        Heard::Known(e) => sound_step(g, e),
-        Heard::Unknown => Answered {
+        Heard::Known(e) => sound_step(
+            q,
+            clusters,
+            clients,
+            cap,
+            sizes,
+            kinds,
+            homes,
+            priorities,
+            charges,
+            e,
+        ),
+        Heard::Unknown => Outcome {
             answer: Answer::Unknown,
-            gate: g,
+            queues: q,
         },
+    }
+}
+
+// THE PUBLIC DOOR
+
+// What a record says, on a sound gate: taken apart, and put together after.
+fn whole_record(g: Gate, h: Heard) -> Answered
+    requires { ⌜ soundOf g ≡ true ⌝ }
+    ensures { λ r. ⌜ toldIn r ≡ stepped g (heardIn h) ⌝ }
+{
+    let s = g.setup;
+    let mut charges = g.charges;
+    let r = sound_record(
+        gate::queues_of(g),
+        s.clusters,
+        s.clients,
+        s.cap,
+        &s.sizes,
+        &s.kinds,
+        &s.homes,
+        &s.priorities,
+        &mut charges,
+        h,
+    );
+    let answer = r.answer;
+    let next = gate::gate_of(s, r.queues, charges);
+    Answered {
+        answer: answer,
+        gate: next,
     }
 }
 
@@ -52,7 +143,7 @@ fn checked_record(g: Gate, h: Heard) -> Answered
             gate: g,
         };
     }
-    sound_record(g, h)
+    whole_record(g, h)
 }
 
 // An event on any gate.

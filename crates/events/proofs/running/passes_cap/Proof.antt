@@ -1,4 +1,4 @@
--- `events::passes_cap` meets its contract.
+-- `events::running::passes_cap` meets its contract.
 -- Assumes nothing.
 use Prim.Native.Nat.{_+_}
 use mathlib.Core.Path.{sym}
@@ -6,11 +6,11 @@ use native.Mathlib.Omega.{arith}
 use borrow.Author.Needs.{needs}
 use borrow.Author.Tests.{lt-ltb}
 use Rattle.charging.proofs.Growing.{past-is}
-use Rattle.events.proofs.passes_cap.Statement.{statement}
-use Rattle.events.proofs.passes_cap.Tie as tie
+use Rattle.events.proofs.running.passes_cap.Statement.{statement}
+use Rattle.events.proofs.running.passes_cap.Tie as tie
 
 returns : tie.Need-returns
-returns c =
+returns c = 
     let a = c .before .args in
     sym (lt-ltb (a .cap) (a .units + a .n) (omega arith))
 
@@ -18,7 +18,7 @@ cast-result : tie.Need-cast-result
 cast-result c = search needs
 
 returns-2 : tie.Need-returns-2
-returns-2 c =
+returns-2 c = 
     let a = c .before .args in
     past-is (a .cap) (a .units) (a .n) (omega arith)
 
