@@ -113,7 +113,7 @@ module _ (v : Setup) (s : State) (h : Sound (setupOf v) s) where
   global-pass : globalSound u s (pad maxClusters (s .global)) ≡ true
   unfolding globalSound firstIn
   global-pass =
-      let w = held maxClusters (s .global) (fits .global-fits) in
+      let w = held maxClusters (s .global) (fits .queues .global .fits) in
       rw (
         w .back,
         w .places,
@@ -125,7 +125,7 @@ module _ (v : Setup) (s : State) (h : Sound (setupOf v) s) where
     where
       each : (l : List ℕ) → firstIn (queued u s) (setIn (s .global)) l ≡ true
       each [] = refl
-      each (x ∷ l) = rw (set-has (s .global) (fits .global-fits .used) x, h .global x) (not-or-self (queued u s x))
+      each (x ∷ l) = rw (set-has (s .global) (fits .queues .global .fits .used) x, h .global x) (not-or-self (queued u s x))
 
   -- THE SERVER
 

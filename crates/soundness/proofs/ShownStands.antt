@@ -69,7 +69,7 @@ module _ (v : Setup) (s : State) (h : Sound (setupOf v) s) where
 
       go : (k : ℕ) → lineSound u k (pad maxSize (s .lines k)) ≡ true
       go k =
-          let w = held maxSize (s .lines k) (fits .line-fits k) in
+          let w = held maxSize (s .lines k) (fits .queues .lines .fits k) in
           let l = h .lines k in
           rw (w .places, w .back, le-leb (length (s .lines k)) (u .size k) (l .fits))
           (has-every (ofCluster u k) (s .lines k) (λ c e.
@@ -78,7 +78,7 @@ module _ (v : Setup) (s : State) (h : Sound (setupOf v) s) where
   pub background-pass : backgroundSound u (pad maxClients (s .background)) ≡ true
   unfolding backgroundSound
   background-pass =
-      let w = held maxClients (s .background) (fits .background-fits) in
+      let w = held maxClients (s .background) (fits .queues .background .fits) in
       let b = h .background in
       rw (w .places, w .back)
       (has-every (ofBackground u) (s .background) (λ c e.
@@ -101,8 +101,8 @@ module _ (v : Setup) (s : State) (h : Sound (setupOf v) s) where
   in-set =
       set-has all (λ c e. either-true (has c (joined (s .lines) 0 maxClusters)) (has c (s .background))
       (rw has-append at e)
-      (λ q. joined-has (s .lines) 0 maxClusters c q (λ j x y i. fits .line-fits j .used c i))
-      (λ q. fits .background-fits .used c q))
+      (λ q. joined-has (s .lines) 0 maxClusters c q (λ j x y i. fits .queues .lines .fits j .used c i))
+      (λ q. fits .queues .background .fits .used c q))
 
   pub no-place : (c : ℕ) → has c (s .lines (u .cluster c)) ≡ false → has c (s .background) ≡ false
       → member (setIn all) c ≡ false
