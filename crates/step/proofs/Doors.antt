@@ -1,62 +1,76 @@
 -- What an event on a sound gate leaves: the rules' answer, and the shown form of the state after it, which is sound.
 -- Assumes nothing.
-use mathlib.Core.Path.{_≡_, sym, _∙_}
+use Prim.Native.Nat.{ℕ, _≤_}
+use mathlib.Core.List.{List}
+use mathlib.Core.Path.{_≡_, refl, sym, _∙_}
 use mathlib.Core.Bool.{true, false}
 use mathlib.Core.Option.{Option, some, none}
+use native.Mathlib.Omega.{arith}
+use lib.ListN.{length}
+use Rattle.rules.specs.Limits.{maxClients, maxClusters}
 use Rattle.rules.specs.Refusals.{unsound}
 use Rattle.rules.specs.Sound.{Sound}
 use Rattle.rules.specs.Events.{Event}
 use Rattle.rules.specs.Records.{answerOf, stepOf}
+use Rattle.rules.proofs.Setups.{allowed}
 use Rattle.rules.proofs.Theorems.{sound-stays}
 use Rattle.gate.specs.declared.Gate.{Gate}
-use Rattle.gate.specs.Shown.{setupOf, stateOf, shown}
-use Rattle.gate.specs.Shows.{Shows}
+use Rattle.gate.specs.declared.Queues.{Queues}
+use Rattle.gate.specs.declared.Setup.{Setup}
+use Rattle.gate.specs.Parts.{gateOf}
+use Rattle.gate.specs.Shown.{serverOf, setupOf, stateOf, shown}
+use Rattle.gate.specs.Shows.{Fine, Homes, ServerFits, Shows}
 use Rattle.gate.proofs.Reading.{laid-shows, shows-is, shown-back}
+use Rattle.gate.proofs.SoundShows.{accepted-fine}
 use Rattle.soundness.specs.Clauses.{soundOf}
 use Rattle.soundness.proofs.Exact.{passed-laid, passed-sound, shown-passes}
-use Rattle.events.specs.Answers.{numberOf, Usable, Answers}
-use Rattle.events.specs.declared.Answered.{Answered}
-use Rattle.events.proofs.Answering.{sound-usable}
-use Rattle.step.specs.Stepped.{toldIn, ruled, stepped}
+use Rattle.events.specs.Answers.{numberOf, Answers, Holds}
+use Rattle.events.specs.declared.Outcome.{Outcome}
+use Rattle.step.specs.Stepped.{Told, toldIn, ruled, stepped, toldOf, Stands, Steps}
+use Rattle.step.specs.declared.Answered.{Answered}
 
-module _ (g : Gate) (h : soundOf g ≡ true) where
-  pub shows : Shows (g .setup) (stateOf g) g
-  shows = laid-shows g (passed-laid g h)
+module _ {v : Setup} {q : Queues} {cs : List ℕ} (h : Stands v q cs) where
+  shows : Shows v (stateOf (gateOf v q cs)) (gateOf v q cs)
+  shows = laid-shows (gateOf v q cs) (passed-laid (gateOf v q cs) (h .sound))
 
-  pub sound-now : Sound (setupOf (g .setup)) (stateOf g)
-  sound-now = passed-sound g h
+  pub holds : Holds v (stateOf (gateOf v q cs)) q cs
+  holds = record { queues = shows .queues; charges = shows .charges; sound = passed-sound (gateOf v q cs) (h .sound) }
 
   -- every index of the code is in its range
-  pub usable : Usable g
-  usable = sound-usable shows sound-now
+  pub fine : Fine v
+  fine = shows .fine
 
-  -- an answer by the rules is the step's
-  pub stepped-is : (r : Answered) (o : Option Event)
-      → numberOf (r .answer) ≡ answerOf (setupOf (g .setup)) (stateOf g) o
-      → r .gate ≡ shown (g .setup) (stepOf (setupOf (g .setup)) (stateOf g) o) → toldIn r ≡ stepped g o
+  pub few-clusters : v .clusters ≤ maxClusters
+  few-clusters = allowed (setupOf v) (holds .sound .setup) .few-clusters
+
+  pub homes : length (v .homes) ≡ maxClients → Homes (v .homes)
+  homes e = record { rows = e; low = fine .homes }
+
+  pub server : ServerFits (serverOf (q .service .server))
+  server = rw (shows .queues .service .server) (shows .queues .service .fits)
+
+  -- a gate by the rules is the step's, and sound
+  steps : (r : Outcome) (cs′ : List ℕ) (o : Option Event) → numberOf (r .answer) ≡ answerOf (setupOf v) (stateOf (gateOf v q cs)) o
+      → gateOf v (r .queues) cs′ ≡ shown v (stepOf (setupOf v) (stateOf (gateOf v q cs)) o) → Steps v q cs o r cs′
   unfolding stepped
-  stepped-is r o n e = rw (h, n, e)
+  steps r cs′ o n e = (
+    rw (h .sound, n, e),
+    record {
+      sound = rw e (shown-passes v (stepOf (setupOf v) (stateOf (gateOf v q cs)) o)
+          (sound-stays (setupOf v) (stateOf (gateOf v q cs)) o (holds .sound)));
+    },
+  )
 
-  -- and its gate is sound
-  pub still-sound : (r : Answered) (o : Option Event)
-      → r .gate ≡ shown (g .setup) (stepOf (setupOf (g .setup)) (stateOf g) o) → soundOf (r .gate) ≡ true
-  still-sound r o e =
-      rw e (shown-passes (g .setup) (stepOf (setupOf (g .setup)) (stateOf g) o)
-      (sound-stays (setupOf (g .setup)) (stateOf g) o sound-now))
-
-  -- the promise of an event's function, at this gate
-  pub answered : (r : Answered) (e : Event) → Answers (g .setup) (stateOf g) e r
-      → (toldIn r ≡ stepped g (some e)) × (soundOf (r .gate) ≡ true)
-  answered r e a =
-      let q = shows-is (g .setup) (stepOf (setupOf (g .setup)) (stateOf g) (some e)) (r .gate) (a .shows) in
-      (stepped-is r (some e) (a .number) q, still-sound r (some e) q)
+  -- the promise of an event's function, at these parts
+  pub answered : (r : Outcome) (cs′ : List ℕ) (e : Event) → Answers v (stateOf (gateOf v q cs)) e r cs′ → Steps v q cs (some e) r cs′
+  answered r cs′ e a =
+      steps r cs′ (some e) (a .number) (shows-is v (stepOf (setupOf v) (stateOf (gateOf v q cs)) (some e)) (gateOf v (r .queues) cs′)
+      (record { fine = fine; setup = refl; queues = a .queues; charges = a .charges }))
 
   -- a record without an event
-  pub unheard : (r : Answered) → numberOf (r .answer) ≡ answerOf (setupOf (g .setup)) (stateOf g) none → r .gate ≡ g
-      → (toldIn r ≡ stepped g none) × (soundOf (r .gate) ≡ true)
-  unheard r n e =
-      let q = e ∙ sym (shown-back g (passed-laid g h)) in
-      (stepped-is r none n q, still-sound r none q)
+  pub unheard : (r : Outcome) → numberOf (r .answer) ≡ answerOf (setupOf v) (stateOf (gateOf v q cs)) none → r .queues ≡ q
+      → Steps v q cs none r cs
+  unheard r n e = steps r cs none n (rw e (sym (shown-back (gateOf v q cs) (passed-laid (gateOf v q cs) (h .sound)))))
 
 -- a sound gate's step is the rules' own
 pub step-sound : (g : Gate) (o : Option Event) → soundOf g ≡ true → stepped g o ≡ ruled g o

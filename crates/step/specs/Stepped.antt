@@ -1,16 +1,22 @@
 -- A step of a gate: the number that it answers, and the gate after it.
 -- Assumes nothing.
 use Prim.Native.Nat.{ℕ}
-use mathlib.Core.Bool.{cond}
+use mathlib.Core.Bool.{true, cond}
+use mathlib.Core.List.{List}
 use mathlib.Core.Option.{Option}
+use mathlib.Core.Path.{_≡_}
 use Rattle.rules.specs.Refusals.{unsound}
 use Rattle.rules.specs.Events.{Event}
 use Rattle.rules.specs.Records.{answerOf, stepOf}
+use Rattle.gate.specs.declared.Setup.{Setup}
+use Rattle.gate.specs.declared.Queues.{Queues}
 use Rattle.gate.specs.declared.Gate.{Gate}
+use Rattle.gate.specs.Parts.{gateOf}
 use Rattle.gate.specs.Shown.{setupOf, stateOf, shown}
 use Rattle.soundness.specs.Clauses.{soundOf}
 use Rattle.events.specs.Answers.{numberOf}
-use Rattle.events.specs.declared.Answered.{Answered}
+use Rattle.events.specs.declared.Outcome.{Outcome}
+use Rattle.step.specs.declared.Answered.{Answered}
 
 pub record Told : Type 0 where
   pub number : ℕ
@@ -30,3 +36,16 @@ ruled g o = record {
 -- First an unsound state (19), then 18, then the event's own. A refused event returns the same gate.
 unfoldable pub stepped : Gate → Option Event → Told
 stepped g o = cond (soundOf g) (ruled g o) (record { number = unsound; gate = g })
+
+-- ON PARTS
+
+-- a sound gate's parts
+pub record Stands (v : Setup) (q : Queues) (cs : List ℕ) : Type 0 where
+  pub sound : soundOf (gateOf v q cs) ≡ true
+
+abbrev pub toldOf : Setup → Outcome → List ℕ → Told
+toldOf v r cs = record { number = numberOf (r .answer); gate = gateOf v (r .queues) cs }
+
+-- the outcome, with the charges cs′ after, is the step of the gate of these parts, and leaves a sound gate's
+abbrev pub Steps : Setup → Queues → List ℕ → Option Event → Outcome → List ℕ → Type 0
+Steps v q cs o r cs′ = (toldOf v r cs′ ≡ stepped (gateOf v q cs) o) × Stands v (r .queues) cs′

@@ -7,6 +7,7 @@ use gate::Event;
 use gate::Gate;
 use gate::Heard;
 use gate::Queues;
+use gate::Setup;
 use gate::heard_in;
 ghost use mathlib.Core.Path.{_≡_};
 ghost use mathlib.Core.Bool.{true};
@@ -15,7 +16,7 @@ ghost use lib.ListN.{length};
 ghost use Rattle.rules.specs.Limits.{maxClients};
 ghost use Rattle.rules.specs.Records.{eventOf};
 ghost use Rattle.gate.specs.Heard.{eventIn, heardIn};
-ghost use Rattle.gate.specs.Parts.{setupWith};
+ghost use Rattle.gate.specs.Parts.{setupWith, gateOf};
 ghost use Rattle.step.specs.Stepped.{toldIn, stepped, Stands, Steps};
 
 // The answer, and the gate after.
@@ -106,15 +107,14 @@ pub fn sound_record<'a>(
 
 // THE PUBLIC DOOR
 
-// What a record says, on a sound gate: taken apart, and put together after.
-fn whole_record(g: Gate, h: Heard) -> Answered
-    requires { ⌜ soundOf g ≡ true ⌝ }
-    ensures { λ r. ⌜ toldIn r ≡ stepped g (heardIn h) ⌝ }
+// What a record says, on the parts of a sound gate; the gate is put together after.
+fn joined_record(s: Setup, q: Queues, charges: [u32; 64], h: Heard) -> Answered
+    requires { ⌜ Stands s q charges ⌝ }
+    ensures { λ r. ⌜ toldIn r ≡ stepped (gateOf s q charges) (heardIn h) ⌝ }
 {
-    let s = g.setup;
-    let mut charges = g.charges;
+    let mut after = charges;
     let r = sound_record(
-        gate::queues_of(g),
+        q,
         s.clusters,
         s.clients,
         s.cap,
@@ -122,11 +122,12 @@ fn whole_record(g: Gate, h: Heard) -> Answered
         &s.kinds,
         &s.homes,
         &s.priorities,
-        &mut charges,
+        &mut after,
         h,
     );
     let answer = r.answer;
-    let next = gate::gate_of(s, r.queues, charges);
+    let queues = r.queues;
+    let next = gate::gate_of(s, queues, after);
     Answered {
         answer: answer,
         gate: next,
@@ -143,7 +144,9 @@ fn checked_record(g: Gate, h: Heard) -> Answered
             gate: g,
         };
     }
-    whole_record(g, h)
+    let s = g.setup;
+    let charges = g.charges;
+    joined_record(s, gate::queues_of(g), charges, h)
 }
 
 // An event on any gate.

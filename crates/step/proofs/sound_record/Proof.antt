@@ -17,13 +17,12 @@ enum-told : tie.Need-enum-told
 enum-told c = search needs
 
 returns : tie.Need-returns
-returns c = rw (c .before .before .h .given .1) (c .sound-step .ensures)
+returns c = rw (c .before .before .before .h .given .1) (c .sound-step .ensures)
 
 returns-2 : tie.Need-returns-2
-returns-2 c =
-    let s = c .before .before in
-    rw (c .enum-told .given .1)
-    (unheard (s .args .g) (s .pre) (record { answer = Unknown; gate = s .args .g }) refl refl)
+returns-2 c = 
+    rw (c .enum-told .given .1) 
+    (unheard (c .before .before .pre .1) (record { answer = Unknown; queues = c .before .before .args .q }) refl refl)
 
 pub sound-record-spec : {M : Type 1} → statement M
 sound-record-spec =
