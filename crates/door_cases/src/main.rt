@@ -20,7 +20,7 @@ use text::wide_size;
 ghost use Prim.Native.Nat.{_+_, _*_, _≤_};
 ghost use lib.ListN.{length};
 
-const CASE: usize = GATE + 3;
+const CASE: usize = GATE + log::RECORD;
 
 // Room for the longest line: 22 bytes before the changes, 42 a change, and an LF.
 const LINE: usize = 22 + 42 * GATE + 1;
@@ -79,7 +79,11 @@ fn flag(g: Gate) -> u8 {
 
 // What the step makes of a gate and the record of a case.
 fn tried(g: Gate, case: &[u8]) -> Answered {
-    step::step_record(g, byte_at(case, GATE), word_at(case, GATE + 1))
+    step::step_record(
+        g,
+        byte_at(case, GATE),
+        word_at(case, GATE + log::RECORD_ARGUMENT),
+    )
 }
 
 // The line of a case.

@@ -37,8 +37,8 @@ module _ (t : ℕ) where
       let n = d .before .before .before .before .args .n in
       (rw (← decimal-digit n (omega arith)) (d .put-digit .ensures), omega (arith, d .put-digit .ensures .ends))
 
-  put-number-requires : lts.Need-put-number-requires (digit.Asked, digit.Learnt, below t, number.Post) (at t) number.Post
-  put-number-requires c κs = search needs
+  tenth-requires : lts.Need-put-number-requires (digit.Asked, digit.Learnt, below t, number.Post) (at t) number.Post
+  tenth-requires c κs = search needs
 
   last-requires : lts.Need-put-digit-requires-2 (digit.Asked, digit.Learnt, below t, number.Post) (at t) number.Post
   last-requires c κs =
@@ -65,7 +65,7 @@ pub +put-number-spec : {M : Type 1} → statement M
     (put-digit-requires t)
     (same-length t)
     (returns t)
-    (put-number-requires t)
+    (tenth-requires t)
     (last-requires t)
     (same-length-2 t)
     (returns-2 t)
