@@ -16,6 +16,7 @@ use text::LF;
 use text::SPACE;
 use text::put_byte;
 use text::put_number;
+use text::wide;
 use text::wide_size;
 ghost use Prim.Native.Nat.{_+_, _*_, _≤_};
 ghost use lib.ListN.{length};
@@ -66,10 +67,6 @@ fn answer(case: &[u8]) -> bool {
     let mut out = [0u8; LINE];
     let k = put_case(&mut out, case);
     streams::write_out(&out[..k])
-}
-
-fn wide(x: u8) -> u64 {
-    x as u64
 }
 
 // 1 if a gate is sound, else 0.

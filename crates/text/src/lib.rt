@@ -1,6 +1,11 @@
 // Text in a lent buffer: bytes and numbers, each written from a place on. A caller sees to it that there is room.
+mod numbers;
 
-ghost use mathlib.Core.Path.{_≡_};
+pub use numbers::least;
+pub use numbers::wide;
+pub use numbers::wide_size;
+pub use numbers::wide16;
+pub use numbers::wide32;
 ghost use mathlib.Core.List.{_∷_, []};
 ghost use Prim.Native.Nat.{_+_, _≤_, _<_};
 ghost use lib.ListN.{length};
@@ -31,13 +36,6 @@ pub fn put_bytes(out: &mut [u8], at: usize, s: &[u8]) -> usize
         i += 1;
     }
     at + i
-}
-
-// A size as a number to be written.
-pub fn wide_size(x: usize) -> u64
-    ensures { λ r. ⌜ r ≡ x ⌝ }
-{
-    x as u64
 }
 
 // One digit at a place.
