@@ -42,7 +42,7 @@ use Rattle.log.specs.declared.Refusal.{Refusal}
 use Rattle.log.specs.declared.Refusal.the-variants.{Long, Short, BadMark, BadVersion, BadClusters, NoCap}
 use Rattle.log.specs.declared.Refusal.the-variants.{ManyClients, CutTables, BadSize, BadRow, CutRecord}
 use Rattle.log.specs.Opening.{told, setupIn, openingOf}
-use Rattle.log.specs.Reading.{recordSize}
+use Rattle.log.specs.Layout.{recordSize}
 use Rattle.report.specs.Report.{heading, entryLines, refusedLine, whole, recordsIn, lastLines, replayed, reportOf}
 use Rattle.quote.specs.declared.Answer as quoted
 use Rattle.quote.specs.declared.Answer.the-variants as quoted-as

@@ -23,7 +23,7 @@ use Rattle.gate.specs.Made.{verdictOf, made, trimmedIn, zeroPast, emptyBytes}
 use Rattle.log.specs.declared.Opening.the-variants.{Records, Refused}
 use Rattle.log.specs.declared.Refusal.the-variants.{Short}
 use Rattle.log.specs.Opening.{setupIn, headOf, tablesOf, openingOf}
-use Rattle.log.specs.Reading.{recordSize}
+use Rattle.log.specs.Layout.{recordSize}
 use Rattle.report.specs.Report.{whole}
 use Rattle.demands.specs.Histories.{chargeAfter}
 use Rattle.demands.proofs.DemandThree.{u, stored}

@@ -15,6 +15,8 @@ use gate::Client;
 use gate::Gate;
 use gate::Server;
 use gate::Setup;
+use text::wide16;
+use text::wide32;
 ghost use Prim.Native.Nat.{_≤_, _<_};
 
 // Byte j of a number.
@@ -22,14 +24,6 @@ fn octet_of(x: u64, j: usize) -> u8
     requires { ⌜ j < 8 ⌝ }
 {
     ((x >> (8 * j)) % 256) as u8
-}
-
-fn wide16(x: u16) -> u64 {
-    x as u64
-}
-
-fn wide32(x: u32) -> u64 {
-    x as u64
 }
 
 fn client_byte(c: Client, code: u8, j: usize) -> u8

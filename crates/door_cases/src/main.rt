@@ -16,11 +16,12 @@ use text::LF;
 use text::SPACE;
 use text::put_byte;
 use text::put_number;
+use text::wide;
 use text::wide_size;
 ghost use Prim.Native.Nat.{_+_, _*_, _≤_};
 ghost use lib.ListN.{length};
 
-const CASE: usize = GATE + 3;
+const CASE: usize = GATE + log::RECORD;
 
 // Room for the longest line: 22 bytes before the changes, 42 a change, and an LF.
 const LINE: usize = 22 + 42 * GATE + 1;
@@ -68,10 +69,6 @@ fn answer(case: &[u8]) -> bool {
     streams::write_out(&out[..k])
 }
 
-fn wide(x: u8) -> u64 {
-    x as u64
-}
-
 // 1 if a gate is sound, else 0.
 fn flag(g: Gate) -> u8 {
     if sound::sound(g) { b'1' } else { b'0' }
@@ -79,7 +76,11 @@ fn flag(g: Gate) -> u8 {
 
 // What the step makes of a gate and the record of a case.
 fn tried(g: Gate, case: &[u8]) -> Answered {
-    step::step_record(g, byte_at(case, GATE), word_at(case, GATE + 1))
+    step::step_record(
+        g,
+        byte_at(case, GATE),
+        word_at(case, GATE + log::RECORD_ARGUMENT),
+    )
 }
 
 // The line of a case.

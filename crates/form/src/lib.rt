@@ -3,6 +3,7 @@ mod line;
 
 use line::put_answer;
 use text::LF;
+use text::least;
 ghost use mathlib.Core.Path.{_≡_};
 ghost use mathlib.Core.List.{_∷_, []};
 ghost use Prim.Native.Nat.{_+_, _*_, _≤_, min};
@@ -154,10 +155,4 @@ fn put(room: &mut [u8], k: usize, b: u8) -> usize
     } else {
         k
     }
-}
-
-fn least(a: usize, b: usize) -> usize
-    ensures { λ r. ⌜ r ≡ min a b ⌝ }
-{
-    if a < b { a } else { b }
 }

@@ -1,4 +1,6 @@
 // A field's text as a number.
+
+use text::wide;
 ghost use mathlib.Core.Path.{_≡_};
 ghost use Rattle.order.specs.Numbers.{fieldOf, digits};
 ghost use Rattle.order.specs.Steps.{sized, positive as Steps·positive, negative as Steps·negative};
@@ -53,12 +55,6 @@ fn size(f: &[u8]) -> u64
         i += 1;
     }
     n
-}
-
-fn wide(b: u8) -> u64
-    ensures { λ r. ⌜ r ≡ b ⌝ }
-{
-    b as u64
 }
 
 fn positive(n: u64) -> i64

@@ -26,7 +26,7 @@ use Rattle.rules.proofs.Leaving.{Left, put}
 use Rattle.rules.proofs.Turns.{ordered-but, ordered-join, ordered-blocked, ordered-unqueue}
 use Rattle.rules.proofs.Turns.{weaken, turn-mono, turns-right, blocked-apart, join-at}
 use Rattle.rules.proofs.Goes.{Goes, left-passes, front-shifts, other-served, front-queued}
-use Rattle.rules.proofs.Goes.{spent-idle, spent-front}
+use Rattle.rules.proofs.Goes.{differ}
 
 module _ (u : Setup) (rank : Rank) (c : ℕ) (s : State) (i : InOrder u s) where
   module _ (l : ℕ → List ℕ) (r : ℕ → Bool)
@@ -42,7 +42,7 @@ module _ (u : Setup) (rank : Rank) (c : ℕ) (s : State) (i : InOrder u s) where
       held =
           record {
             global-front = i .ordered .global-front;
-            served-front = λ d z. spent-front c d z;
+            served-front = λ d z. differ z refl;
             turn-once = rw e at (i .ordered .turn-once);
             turn-below = rw e at (i .ordered .turn-below);
             turn-of = λ k q z. rw e at (i .ordered .turn-of k q z);
@@ -52,7 +52,7 @@ module _ (u : Setup) (rank : Rank) (c : ℕ) (s : State) (i : InOrder u s) where
       spent-ordered =
           ordered-blocked u (u .cluster c) l (spent c) (s .global) (eq-eqb (u .cluster c) (u .cluster c) refl)
           (ordered-but u (u .cluster c) (s .lines) l (spent c) (s .global) (g .others) (held .turn-once .0)
-          (λ d z w. spent-front c d z)
+          (λ d z w. differ z refl)
           (weaken u (but (u .cluster c)) (s .lines) (spent c) (s .global) held))
 
       -- who is in a room and is not struck is of another cluster
@@ -72,7 +72,7 @@ module _ (u : Setup) (rank : Rank) (c : ℕ) (s : State) (i : InOrder u s) where
               lined = g .lined;
               full = g .full;
               ordered = spent-ordered;
-              rests = λ z. spent-idle c z;
+              rests = λ z. differ z refl;
               units-fit = i .units-fit;
             };
             passes = left-passes u rank c s i l r g (spend c s) x f (strikesInRoom u x s (abort c) || f)

@@ -17,7 +17,7 @@ use Rattle.rules.proofs.Images.{at}
 use Rattle.rules.proofs.InOrder.{Valid, allClusters, Lined, Ordered, InOrder, busy}
 use Rattle.rules.proofs.Ahead.{ahead, extra}
 use Rattle.rules.proofs.Passes.{NoLater, keeps, Passes}
-use Rattle.rules.proofs.Goes.{line-waits, line-there, front-idle, best-idle, spent-idle}
+use Rattle.rules.proofs.Goes.{line-waits, line-there, differ}
 use Rattle.rules.proofs.Pick.{start-put, start-charge, start-in-order}
 
 module _ (u : Setup) (c : ℕ) (s : State) where
@@ -93,9 +93,9 @@ module _ (u : Setup) (ok : Valid u) (rank : Rank) (c : ℕ) (s : State) (i : InO
     pub picked-comes : (v : Server) → s .server ≡ v → Comes (pickIdle v t)
     unfolding pick
     picked-comes idle e = idle-comes e
-    picked-comes (front d) e = busy-comes (λ z. front-idle d (sym e ∙ z))
-    picked-comes (best d) e = busy-comes (λ z. best-idle d (sym e ∙ z))
-    picked-comes (spent d) e = busy-comes (λ z. spent-idle d (sym e ∙ z))
+    picked-comes (front d) e = busy-comes (λ z. differ (sym e ∙ z) refl)
+    picked-comes (best d) e = busy-comes (λ z. differ (sym e ∙ z) refl)
+    picked-comes (spent d) e = busy-comes (λ z. differ (sym e ∙ z) refl)
 
   -- BEST-EFFORT
 

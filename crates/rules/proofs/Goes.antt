@@ -24,23 +24,14 @@ use Rattle.rules.proofs.Leaving.{Left, put}
 
 -- THE CASES OF A SERVER DIFFER
 
-pub idle-front {ℓ} : {X : Type ℓ} (d : ℕ) → idle ≡ front d → X
-idle-front d z = let y : _≡_ {A = ℕ} 0 1 = cc in absurd (omega arith)
+abbrev pub caseOf : Server → ℕ
+caseOf idle = 0
+caseOf (front d) = 1
+caseOf (best d) = 2
+caseOf (spent d) = 3
 
-pub front-idle {ℓ} : {X : Type ℓ} (d : ℕ) → front d ≡ idle → X
-front-idle d z = let y : _≡_ {A = ℕ} 0 1 = cc in absurd (omega arith)
-
-pub best-front {ℓ} : {X : Type ℓ} (c d : ℕ) → best c ≡ front d → X
-best-front c d z = let y : _≡_ {A = ℕ} 0 1 = cc in absurd (omega arith)
-
-pub best-idle {ℓ} : {X : Type ℓ} (c : ℕ) → best c ≡ idle → X
-best-idle c z = let y : _≡_ {A = ℕ} 0 1 = cc in absurd (omega arith)
-
-pub spent-front {ℓ} : {X : Type ℓ} (c d : ℕ) → spent c ≡ front d → X
-spent-front c d z = let y : _≡_ {A = ℕ} 0 1 = cc in absurd (omega arith)
-
-pub spent-idle {ℓ} : {X : Type ℓ} (c : ℕ) → spent c ≡ idle → X
-spent-idle c z = let y : _≡_ {A = ℕ} 0 1 = cc in absurd (omega arith)
+pub differ {ℓ} : {X : Type ℓ} {v w : Server} → v ≡ w → eqb (caseOf v) (caseOf w) ≡ false → X
+differ {v} {w} e n = clash (eq-eqb (caseOf v) (caseOf w) (ap caseOf e)) n
 
 pub front-is : (v : Server) (c : ℕ) → isFront v c ≡ true → v ≡ front c
 front-is idle c h = clash h refl

@@ -18,7 +18,7 @@ use Rattle.rules.proofs.Counts.{distinct-below}
 use Rattle.rules.proofs.InOrder.{allClusters, Lined, Ordered, InOrder}
 use Rattle.rules.proofs.Ahead.{ahead, extra, round}
 use Rattle.rules.proofs.Leaving.{put}
-use Rattle.rules.proofs.Goes.{front-idle, best-idle, best-front}
+use Rattle.rules.proofs.Goes.{differ}
 
 pub start-put : (t : State) (g b : List ℕ) → put (t .lines) (t .room) (start t g b) ≡ start t g b
 start-put t [] [] = refl
@@ -41,12 +41,12 @@ module _ (u : Setup) where
         full = f;
         ordered = record {
           global-front = o .global-front;
-          served-front = λ d e. best-front x d e;
+          served-front = λ d e. differ e refl;
           turn-once = o .turn-once;
           turn-below = o .turn-below;
           turn-of = o .turn-of;
         };
-        rests = λ e. best-idle x e;
+        rests = λ e. differ e refl;
         units-fit = omega arith;
       }
   start-in-order t (x ∷ g) b h f o =
@@ -60,7 +60,7 @@ module _ (u : Setup) where
           turn-below = o .turn-below;
           turn-of = o .turn-of;
         };
-        rests = λ e. front-idle x e;
+        rests = λ e. differ e refl;
         units-fit = omega arith;
       }
 

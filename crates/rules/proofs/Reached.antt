@@ -22,7 +22,7 @@ use Rattle.rules.proofs.Ranking.{Ranking}
 use Rattle.rules.proofs.Setups.{valid}
 use Rattle.rules.proofs.InOrder.{InOrder}
 use Rattle.rules.proofs.Kept.{Kept, begun}
-use Rattle.rules.proofs.Goes.{idle-front}
+use Rattle.rules.proofs.Goes.{differ}
 use Rattle.rules.proofs.Placed.{Placed}
 use Rattle.rules.proofs.SoundStates.{sound-is}
 use Rattle.rules.proofs.Steps.{next-in-order, next-placed, next-kept}
@@ -46,7 +46,7 @@ module _ (u : Setup) where
         full = λ c h. clash h refl;
         ordered = record {
           global-front = λ d h. clash h refl;
-          served-front = λ d h. idle-front d h;
+          served-front = λ d h. differ h refl;
           turn-once = tt;
           turn-below = λ k h. clash h refl;
           turn-of = λ k q h. absurd (omega arith);

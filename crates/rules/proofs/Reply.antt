@@ -23,7 +23,7 @@ use Rattle.rules.proofs.Ahead.{turnOf, ahead, round}
 use Rattle.rules.proofs.Passes.{keeps, Passes}
 use Rattle.rules.proofs.Leaving.{Left, left-cases, put}
 use Rattle.rules.proofs.Turns.{ordered-but, ordered-join, join-same}
-use Rattle.rules.proofs.Goes.{Goes, left-passes, front-shifts, line-waits, line-there, idle-front}
+use Rattle.rules.proofs.Goes.{Goes, left-passes, front-shifts, line-waits, line-there, differ}
 use Rattle.rules.proofs.Pick.{start-put, start-charge, start-in-order, start-ahead, start-extra, start-round}
 
 module _ (u : Setup) (ok : Valid u) (rank : Rank) (s : State) (i : InOrder u s) where
@@ -76,7 +76,7 @@ module _ (u : Setup) (ok : Valid u) (rank : Rank) (s : State) (i : InOrder u s) 
       o =
           record {
             global-front = i .ordered .global-front;
-            served-front = λ d z. idle-front d z;
+            served-front = λ d z. differ z refl;
             turn-once = rw e at (i .ordered .turn-once);
             turn-below = rw e at (i .ordered .turn-below);
             turn-of = λ k q z. rw e at (i .ordered .turn-of k q z);
@@ -98,7 +98,7 @@ module _ (u : Setup) (ok : Valid u) (rank : Rank) (s : State) (i : InOrder u s) 
     freed-but =
         record {
           global-front = i .ordered .global-front;
-          served-front = λ d z. idle-front d z;
+          served-front = λ d z. differ z refl;
           turn-once = alone .1;
           turn-below = λ j z.
               i .ordered .turn-below j (rw q (has-tail j (u .cluster c) (map (u .cluster) (s .global)) z));
@@ -166,7 +166,7 @@ module _ (u : Setup) (ok : Valid u) (rank : Rank) (s : State) (i : InOrder u s) 
         o =
             ordered-join u (u .cluster c) l idle (s .global) low (left .lined .line (u .cluster c)) (alone .0)
             (ordered-but u (u .cluster c) (s .lines) l idle (s .global) (left .others) (alone .0)
-            (λ d z w. idle-front d z) freed-but)
+            (λ d z w. differ z refl) freed-but)
 
         -- whoever was in the room has a line that is not empty
         still : s .room x ≡ true → 0 < length (l (u .cluster x))

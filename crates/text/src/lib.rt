@@ -1,10 +1,15 @@
 // Text in a lent buffer: bytes and numbers, each written from a place on. A caller sees to it that there is room.
+mod numbers;
 
-ghost use mathlib.Core.Path.{_≡_};
+pub use numbers::least;
+pub use numbers::wide;
+pub use numbers::wide_size;
+pub use numbers::wide16;
+pub use numbers::wide32;
 ghost use mathlib.Core.List.{_∷_, []};
 ghost use Prim.Native.Nat.{_+_, _≤_, _<_};
 ghost use lib.ListN.{length};
-ghost use Rattle.text.specs.Text.{maxDigits, decimal, WroteAt};
+ghost use Rattle.text.specs.Text.{firstDigit, maxDigits, decimal, WroteAt};
 
 // What ends a line.
 pub const LF: u8 = 10;
@@ -33,20 +38,23 @@ pub fn put_bytes(out: &mut [u8], at: usize, s: &[u8]) -> usize
     at + i
 }
 
-// A size as a number to be written.
-pub fn wide_size(x: usize) -> u64
-    ensures { λ r. ⌜ r ≡ x ⌝ }
+// One digit at a place.
+fn put_digit(out: &mut [u8], at: usize, d: u64) -> usize
+    requires { ⌜ (at < length (now out)) × (d < 10) ⌝ }
+    ensures { λ r. ⌜ WroteAt at ((firstDigit + d) ∷ []) (now (out .entry)) (now (out .exit)) r ⌝ }
 {
-    x as u64
+    put_byte(out, at, b'0' + d as u8)
 }
 
-// The digits of a number from a place on.
+// The digits of a number from a place on: those of its tenth, then the last. It calls itself at most 19 times.
 pub fn put_number(out: &mut [u8], at: usize, n: u64) -> usize
     requires { ⌜ at + maxDigits ≤ length (now out) ⌝ }
     ensures { λ r. ⌜ WroteAt at (decimal n) (now (out .entry)) (now (out .exit)) r ⌝ }
     ensures { λ r. ⌜ r ≤ at + maxDigits ⌝ }
 {
-    let mut digits = [0u8; 20];
-    let k = io::decimal(n, &mut digits);
-    put_bytes(out, at, &digits[..k])
+    if n < 10 {
+        return put_digit(out, at, n);
+    }
+    let last = put_number(out, at, n / 10);
+    put_digit(out, last, n % 10)
 }
