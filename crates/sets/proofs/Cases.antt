@@ -4,7 +4,7 @@ use Prim.Native.Nat.{ℕ}
 use mathlib.Core.Path.{_≡_, refl}
 use mathlib.Core.Bool.{true, false, _||_}
 use lib.Dec.{eqb, ltb}
-use Rattle.sets.specs.Sets.{member, setOf, withOf, withoutOf, countOf}
+use Rattle.sets.specs.Sets.{member, setOf, withOf, withoutOf, lessOf, countOf}
 
 -- 13 = 8 + 4 + 1 is the set of 0, 2 and 3
 member-13 :
@@ -31,6 +31,11 @@ with-13 = (refl, refl, refl)
 without-13 : (withoutOf 13 3 ≡ 5) × (withoutOf 13 1 ≡ 13) × (withoutOf 13 64 ≡ 13)
 unfolding member setOf
 without-13 = (refl, refl, refl)
+
+-- 0 and 3 are left of 13 without 2 and 5; nobody is left without all of them
+less-13 : (lessOf 13 36 ≡ 9) × (lessOf 13 15 ≡ 0)
+unfolding member setOf
+less-13 = (refl, refl)
 
 -- none, three, and all 64
 count-some : (countOf 0 ≡ 0) × (countOf 13 ≡ 3) × (countOf 18446744073709551615 ≡ 64)

@@ -2,7 +2,7 @@
 -- Assumes nothing.
 use Prim.Native.Nat.{ℕ, zero, suc, _+_, _*_, _%_, _^_, _≤_, _<_}
 use mathlib.Core.Path.{_≡_, refl, sym, ap, ap₂, _∙_}
-use mathlib.Core.Bool.{Bool, true, false, xor, _||_, cond}
+use mathlib.Core.Bool.{Bool, true, false, not, xor, _&&_, _||_, cond}
 use native.Mathlib.Nat.{one-mul, zero-add}
 use native.Mathlib.Numerals.{one-add}
 use native.Mathlib.Omega.{arith}
@@ -54,6 +54,21 @@ module _ (n s c : ℕ) (h : s < 2 ^ n) (l : c < n) where
 pub or-both : (n s t : ℕ) → s < 2 ^ n → t < 2 ^ n → bitOr s t ≡ setOf n (λ (j : ℕ). member s j || member t j)
 or-both n s t hs ht =
     is-setOf n (bitOr s t) (λ (j : ℕ). member s j || member t j) (or-lt n s t hs ht) (λ j m. member-or s t j)
+
+-- the bits of both words, with those of the one turned
+pub or-xor-both : (n s t : ℕ) → s < 2 ^ n → t < 2 ^ n
+    → bitXor (bitOr t s) t ≡ setOf n (λ (j : ℕ). member s j && not (member t j))
+unfolding xor
+or-xor-both n s t hs ht =
+    is-setOf n (bitXor (bitOr t s) t) _ (xor-lt n (bitOr t s) t (or-lt n t s ht hs) ht) λ j m.
+    member-xor (bitOr t s) t j ∙ ap (λ (b : Bool). xor b (member t j)) (member-or t s j)
+    ∙ less (member s j) (member t j)
+  where
+    less : (a b : Bool) → xor (b || a) b ≡ a && not b
+    less true true = refl
+    less true false = refl
+    less false true = refl
+    less false false = refl
 
 -- the bits of a set are counted as its members
 pub ones-setOf : (n : ℕ) (p : ℕ → Bool) → ones (setOf n p) ≡ countBelow p n

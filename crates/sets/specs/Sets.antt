@@ -1,7 +1,7 @@
 -- What a word means as a set, and what the functions of this crate answer.
 -- Assumes nothing.
 use Prim.Native.Nat.{ℕ, zero, suc, _+_, _/_, _%_, _^_}
-use mathlib.Core.Bool.{Bool, true, false, _||_, cond}
+use mathlib.Core.Bool.{Bool, true, false, not, _&&_, _||_, cond}
 use lib.Dec.{eqb}
 use Rattle.rules.specs.Limits.{maxClients}
 use Rattle.rules.specs.Lists.{upd, countBelow}
@@ -26,6 +26,10 @@ withoutOf s c = setOf maxClients (upd (member s) c false)
 -- the clients of s and of t
 abbrev pub unionOf : ℕ → ℕ → ℕ
 unionOf s t = setOf maxClients (λ (c : ℕ). member s c || member t c)
+
+-- the clients of s that are not of t
+abbrev pub lessOf : ℕ → ℕ → ℕ
+lessOf s t = setOf maxClients (λ (c : ℕ). member s c && not (member t c))
 
 -- how many clients are in the set s
 unfoldable pub countOf : ℕ → ℕ

@@ -2,7 +2,7 @@
 // A number of 64 or more is no client's: it is in no set, and joins and leaves none.
 
 ghost use mathlib.Core.Path.{_≡_};
-ghost use Rattle.sets.specs.Sets.{member, withOf, withoutOf, unionOf, countOf};
+ghost use Rattle.sets.specs.Sets.{member, withOf, withoutOf, unionOf, lessOf, countOf};
 
 // The bits of a word.
 const WIDTH: usize = 64;
@@ -38,6 +38,13 @@ pub fn union(s: u64, t: u64) -> u64
     ensures { λ r. ⌜ r ≡ unionOf s t ⌝ }
 {
     s | t
+}
+
+// The members of s that t hasn't: both, and then those of t turned.
+pub fn less(s: u64, t: u64) -> u64
+    ensures { λ r. ⌜ r ≡ lessOf s t ⌝ }
+{
+    (t | s) ^ t
 }
 
 // How many are in the set.

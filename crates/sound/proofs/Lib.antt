@@ -1,3 +1,7 @@
--- Waiting rooms as words, and the clauses together. Assumes nothing.
+-- The clauses of soundness by the parts of a gate. Assumes nothing.
+pub mod Members
 pub mod Rooms
+pub mod Fronts
+pub mod Globals
+pub mod Served
 pub mod Rest

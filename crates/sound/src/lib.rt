@@ -1,101 +1,98 @@
 // Whether a gate is sound, in every clause of the definition. A gate of any contents has an answer.
 
-use gate::Cluster;
 use gate::Gate;
 use gate::Line;
 use gate::Server;
-use gate::Setup;
+use standing::Clients;
 use standing::Seen;
 ghost use mathlib.Core.Path.{_≡_};
-ghost use mathlib.Core.Bool.{not, _&&_};
-ghost use Prim.Native.Nat.{_^_, _≤_, _<_};
-ghost use lib.Dec.{eqb, ltb};
+ghost use mathlib.Core.Bool.{_&&_};
+ghost use Prim.Native.Nat.{_<_};
+ghost use lib.Dec.{eqb};
+ghost use lib.ListN.{length, getD};
 ghost use Rattle.rules.specs.Limits.{maxClients, maxClusters};
-ghost use Rattle.rules.specs.Lists.{heads};
 ghost use Rattle.sets.specs.Sets.{member};
 ghost use Rattle.places.specs.Places.{unpad};
-ghost use Rattle.gate.specs.Shown.{setupOf, serverOf, stateOf};
-ghost use Rattle.gate.specs.Shows.{Fine};
-ghost use Rattle.soundness.specs.Tests.{allBelow};
-ghost use Rattle.soundness.specs.Clauses.{ofBackground, mayWait, roomSound, roomsSound, serverSound};
-ghost use Rattle.soundness.specs.Clauses.{chargeSound, chargesSound, restSound, soundOf};
-ghost use Rattle.standing.specs.Answers.{linesIn};
-ghost use Rattle.sound.specs.Answers.{spentSound};
+ghost use Rattle.gate.specs.Shown.{serverOf};
+ghost use Rattle.gate.specs.Shows.{Homes};
+ghost use Rattle.soundness.specs.Clauses.{soundOf};
+ghost use Rattle.sound.specs.Answers.{roomFits, roomsFit, firstsOf, queuedOf, globalFits, serverFits};
+ghost use Rattle.sound.specs.Answers.{chargeFits, chargesFit};
 
 // WAITING ROOMS
 
-// The set has no number from n on.
-fn all_below(x: u64, n: usize) -> bool
-    requires { ⌜ n ≤ maxClients ⌝ }
-    ensures { λ r. ⌜ r ≡ ltb x (2 ^ n) ⌝ }
-{
-    if n >= Gate::MAX_CLIENTS {
-        return true;
-    }
-    (x >> n) == 0
-}
-
-// Client c is not in the room of cluster k, or may wait there: it stands nowhere.
-fn may_wait(s: Setup, k: Cluster, room: u64, stand: u64, c: usize) -> bool
-    requires { ⌜ Fine s ⌝ }
-    ensures { λ r. ⌜ r ≡ mayWait (setupOf s) (k .0) room stand c ⌝ }
-{
-    if !sets::member(room, c) {
-        return true;
-    }
-    if !standing::of_cluster(s, k, c) {
-        return false;
-    }
-    !sets::member(stand, c)
-}
-
-// Every client in the room of cluster k may wait there.
-fn all_may_wait(s: Setup, k: Cluster, room: u64, stand: u64) -> bool
-    requires { ⌜ Fine s ⌝ }
-    ensures { λ r. ⌜ r ≡ allBelow (s .clients) (mayWait (setupOf s) (k .0) room stand) ⌝ }
-{
-    let n = gate::wide(s.clients);
-    let mut c: usize = 0;
-    while c < n {
-        if !may_wait(s, k, room, stand, c) {
-            return false;
-        }
-        c += 1;
-    }
-    true
-}
-
-fn room_sound(s: Setup, k: Cluster, line: Line, room: u64, stand: u64) -> bool
-    requires { ⌜ (k .0 < maxClusters) × Fine s ⌝ }
-    ensures { λ r. ⌜ r ≡ roomSound (setupOf s) stand (k .0) (unpad (line .places)) room ⌝ }
+// Everyone in the room is of its cluster and stands nowhere; the line is full, if somebody is there.
+fn room_sound(m: usize, own: u64, stand: u64, line: Line, room: u64) -> bool
+    ensures { λ r. ⌜ r ≡ roomFits m own stand (unpad (line .places)) room ⌝ }
 {
     if room == 0 {
         return true;
     }
-    if !all_below(room, gate::wide(s.clients)) {
+    if sets::less(room, sets::less(own, stand)) != 0 {
         return false;
     }
-    if !all_may_wait(s, k, room, stand) {
-        return false;
-    }
-    let q = line.places;
-    let i = k.0;
-    gate::wide(s.sizes[i]) <= places::used(&q)
+    m <= rows::used(line)
 }
 
-fn rooms_sound(s: Setup, lines: [Line; 8], rooms: [u64; 8], stand: u64) -> bool
-    requires { ⌜ Fine s ⌝ }
-    ensures { λ r. ⌜ r ≡ roomsSound (setupOf s) stand (linesIn lines) rooms ⌝ }
+fn rooms_sound(
+    sizes: &[u8; 8],
+    own: [u64; 8],
+    stand: u64,
+    lines: [Line; 8],
+    rooms: [u64; 8],
+) -> bool
+    ensures { λ r. ⌜ r ≡ roomsFit (now (sizes .entry)) own stand lines rooms ⌝ }
 {
     let mut k: usize = 0;
     while k < Gate::MAX_CLUSTERS {
-        let line = lines[k];
-        if !room_sound(s, Cluster(k), line, rooms[k], stand) {
+        if !room_sound(gate::wide(sizes[k]), own[k], stand, lines[k], rooms[k]) {
             return false;
         }
         k += 1;
     }
     true
+}
+
+// THE GLOBAL QUEUE
+
+// The front of each line. An unused place holds no client's number, which joins no set.
+fn firsts(lines: [Line; 8]) -> u64
+    ensures { λ r. ⌜ r ≡ firstsOf lines maxClusters ⌝ }
+{
+    let mut fronts: u64 = 0;
+    let mut k: usize = 0;
+    while k < Gate::MAX_CLUSTERS {
+        fronts = sets::with(fronts, gate::wide(rows::front(lines[k])));
+        k += 1;
+    }
+    fronts
+}
+
+// The fronts that are not in service and whose cluster isn't blocked.
+fn queued(homes: &[u8; 64], own: [u64; 8], server: Server, fronts: u64) -> u64
+    requires { ⌜ Homes (now homes) ⌝ }
+    ensures { λ r. ⌜ r ≡ queuedOf (now (homes .entry)) own (serverOf server) fronts ⌝ }
+{
+    let c = rows::index(rows::served(server));
+    if rows::as_front(server) {
+        return sets::without(fronts, c);
+    }
+    if !rows::as_spent(server) {
+        return fronts;
+    }
+    let k = rows::cluster_of(homes, c);
+    let i = k.0;
+    sets::less(fronts, own[i])
+}
+
+// The queue holds each of these once, and nobody else.
+fn global_sound(q: &[u8], fronts: u64) -> bool
+    ensures { λ r. ⌜ r ≡ globalFits fronts (now (q .entry)) ⌝ }
+{
+    let Seen::Once(queue) = standing::queue_seen(q, fronts, 0) else {
+        return false;
+    };
+    queue == fronts
 }
 
 // THE SERVER
@@ -109,62 +106,39 @@ fn idle_sound(units: u32, stand: u64) -> bool
     stand == 0
 }
 
-fn front_sound(s: Setup, lines: [Line; 8], c: usize) -> bool
-    requires { ⌜ Fine s ⌝ }
-    ensures { λ r. ⌜ r ≡ (ltb c (s .clients) && heads c (linesIn lines (setupOf s .cluster c))) ⌝ }
+// Of whoever is in service: a front is one of the fronts; a best-effort client is in no queue; a spent client is
+// real-time, and neither in a line nor in its waiting room.
+fn server_sound(
+    clients: Clients,
+    homes: &[u8; 64],
+    rooms: [u64; 8],
+    fronts: u64,
+    stand: u64,
+    server: Server,
+    units: u32,
+) -> bool
+    requires { ⌜ Homes (now homes) ⌝ }
+    ensures { λ r. ⌜ r ≡ serverFits clients (now (homes .entry)) rooms fronts stand units (serverOf server) ⌝ }
 {
-    if gate::wide(s.clients) <= c {
-        return false;
+    if rows::is_idle(server) {
+        return idle_sound(units, stand);
     }
-    fronts::is_first(s, lines, c)
-}
-
-fn best_sound(s: Setup, stand: u64, c: usize) -> bool
-    requires { ⌜ Fine s ⌝ }
-    ensures { λ r. ⌜ r ≡ (ofBackground (setupOf s) c && not (member stand c)) ⌝ }
-{
-    if !standing::of_background(s, c) {
-        return false;
+    let c = rows::index(rows::served(server));
+    if rows::as_front(server) {
+        return sets::member(fronts, c);
     }
-    !sets::member(stand, c)
-}
-
-fn spent_sound(s: Setup, rooms: [u64; 8], stand: u64, c: usize) -> bool
-    requires { ⌜ Fine s ⌝ }
-    ensures { λ r. ⌜ r ≡ spentSound s rooms stand c ⌝ }
-{
-    if !standing::is_real(s, c) {
-        return false;
+    if rows::as_spent(server) {
+        let k = rows::cluster_of(homes, c);
+        let i = k.0;
+        return sets::member(sets::less(sets::less(clients.own[i], stand), rooms[i]), c);
     }
-    if sets::member(stand, c) {
-        return false;
-    }
-    let k = rows::cluster_of(s, c);
-    let i = k.0;
-    !sets::member(rooms[i], c)
-}
-
-fn server_sound(g: Gate, stand: u64) -> bool
-    requires { ⌜ Fine (g .setup) ⌝ }
-    ensures { λ r. ⌜ r ≡ serverSound (setupOf (g .setup)) stand (stateOf g) (serverOf (g .server)) ⌝ }
-{
-    let s = g.setup;
-    let lines = g.lines;
-    let rooms = g.rooms;
-    let server = g.server;
-    match server {
-        Server::Idle => idle_sound(g.units, stand),
-        Server::Front(c) => front_sound(s, lines, rows::index(c)),
-        Server::Best(c) => best_sound(s, stand, rows::index(c)),
-        Server::Spent(c) => spent_sound(s, rooms, stand, rows::index(c)),
-    }
+    sets::member(sets::less(clients.effort, stand), c)
 }
 
 // CHARGES
 
-fn charge_sound(s: Setup, owner: usize, n: u32) -> bool
-    requires { ⌜ Fine s ⌝ }
-    ensures { λ r. ⌜ r ≡ chargeSound (setupOf s) owner n ⌝ }
+fn charge_sound(real: u64, owner: usize, n: u32) -> bool
+    ensures { λ r. ⌜ r ≡ chargeFits real owner n ⌝ }
 {
     if n > Gate::MAX_CHARGE {
         return false;
@@ -172,16 +146,16 @@ fn charge_sound(s: Setup, owner: usize, n: u32) -> bool
     if n == 0 {
         return true;
     }
-    standing::is_real(s, owner)
+    sets::member(real, owner)
 }
 
-fn charges_sound(s: Setup, q: [u32; 64]) -> bool
-    requires { ⌜ Fine s ⌝ }
-    ensures { λ r. ⌜ r ≡ chargesSound (setupOf s) q ⌝ }
+fn charges_sound(q: &[u32; 64], real: u64) -> bool
+    requires { ⌜ length (now q) ≡ maxClients ⌝ }
+    ensures { λ r. ⌜ r ≡ chargesFit real (now (q .entry)) ⌝ }
 {
     let mut c: usize = 0;
     while c < Gate::MAX_CLIENTS {
-        if !charge_sound(s, c, q[c]) {
+        if !charge_sound(real, c, q[c]) {
             return false;
         }
         c += 1;
@@ -191,29 +165,6 @@ fn charges_sound(s: Setup, q: [u32; 64]) -> bool
 
 // ALL OF THEM
 
-fn rest_sound(g: Gate, stand: u64) -> bool
-    requires { ⌜ (g .setup .clusters ≤ maxClusters) × Fine (g .setup) ⌝ }
-    ensures { λ r. ⌜ r ≡ restSound (setupOf (g .setup)) g (stateOf g) stand ⌝ }
-{
-    let s = g.setup;
-    let lines = g.lines;
-    let rooms = g.rooms;
-    if !rooms_sound(s, lines, rooms, stand) {
-        return false;
-    }
-    if !fronts::global_sound(g) {
-        return false;
-    }
-    if !server_sound(g, stand) {
-        return false;
-    }
-    if g.units > (s.cap as u32) {
-        return false;
-    }
-    let charges = g.charges;
-    charges_sound(s, charges)
-}
-
 // Whether a gate is sound.
 pub fn sound(g: Gate) -> bool
     ensures { λ r. ⌜ r ≡ soundOf g ⌝ }
@@ -222,10 +173,30 @@ pub fn sound(g: Gate) -> bool
     if !standing::setup_sound(s) {
         return false;
     }
+    let clients = standing::clients_below(&s.kinds, &s.homes, gate::wide(s.clients));
+    let own = clients.own;
     let lines = g.lines;
-    let background = g.background;
-    let Seen::Once(stand) = standing::everyone_seen(s, lines, background) else {
+    let Seen::Once(seen) = standing::lines_seen(&s.sizes, own, lines) else {
         return false;
     };
-    rest_sound(g, stand)
+    let background = g.background;
+    let Seen::Once(stand) = standing::queue_seen(&background, clients.effort, seen) else {
+        return false;
+    };
+    let rooms = g.rooms;
+    if !rooms_sound(&s.sizes, own, stand, lines, rooms) {
+        return false;
+    }
+    let fronts = firsts(lines);
+    let global = g.global;
+    if !global_sound(&global, queued(&s.homes, own, g.server, fronts)) {
+        return false;
+    }
+    if !server_sound(clients, &s.homes, rooms, fronts, stand, g.server, g.units) {
+        return false;
+    }
+    if g.units > (s.cap as u32) {
+        return false;
+    }
+    charges_sound(&g.charges, clients.real)
 }

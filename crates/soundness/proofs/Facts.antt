@@ -5,9 +5,9 @@ use mathlib.Core.Path.{_≡_}
 use mathlib.Core.Bool.{Bool, true, false, not, _&&_, _||_}
 use mathlib.Core.List.{List}
 use lib.Dec.{eqb, ltb, leb}
-use lib.ListN.{length, drop}
+use lib.ListN.{length, getD, drop}
 use borrow.Author.Tests.{eqb-true, eq-eqb, ltb-true, ltb-false, lt-ltb, leb-true, le-leb, not-true}
-use Rattle.rules.specs.Limits.{maxSize, maxCap}
+use Rattle.rules.specs.Limits.{maxClusters, maxSize, maxCap}
 use Rattle.rules.specs.Lists.{has}
 use Rattle.rules.specs.Refusals.{accepted}
 use Rattle.rules.specs.Setup as rules
@@ -17,9 +17,10 @@ use Rattle.rules.proofs.Tests.{by-test, clash, either-true, both-true}
 use Rattle.sets.specs.Sets.{member}
 use Rattle.sets.proofs.Bits.{member-past, member-none}
 use Rattle.places.specs.Places.{unpad, usedFirst}
+use Rattle.gate.specs.declared.Line.{Line}
 use Rattle.gate.specs.declared.Setup.{Setup}
 use Rattle.gate.specs.declared.Gate.{Gate}
-use Rattle.gate.specs.Shown.{setupOf}
+use Rattle.gate.specs.Shown.{setupOf, blankLine}
 use Rattle.soundness.specs.Tests.{every, allBelow, zeros, distinct, setIn}
 use Rattle.soundness.specs.Clauses.{isTrimmed, setupSound, laid, isReal, ofCluster, lineSound, linesSound}
 use Rattle.soundness.specs.Clauses.{backgroundSound, roomSound, roomsSound, globalSound, serverSound}
@@ -153,6 +154,17 @@ module _ (u : rules.Setup) where
         fits = leb-true (length (unpad q)) (u .size k) (b .0);
         own = λ c h. of-cluster k c (every-has (ofCluster u k) (unpad q) c (b .1) h);
       }
+
+  -- eight lines, and so of each
+  pub lines-facts : (ls : List Line) → linesSound u ls ≡ true
+      → (length ls ≡ maxClusters) × ((k : ℕ) → k < maxClusters → LineFacts k (getD ls k blankLine .places))
+  unfolding linesSound
+  lines-facts ls e =
+      let test : ℕ → Bool = λ k. lineSound u k (getD ls k blankLine .places) in
+      let w = both-true (eqb (length ls) maxClusters) (allBelow maxClusters test) e in (
+        eqb-true (length ls) maxClusters (w .0),
+        λ k b. line-facts k (getD ls k blankLine .places) (all-at maxClusters test (w .1) k b),
+      )
 
   -- WAITING ROOMS
 

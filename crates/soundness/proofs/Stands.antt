@@ -25,12 +25,12 @@ use Rattle.gate.specs.Shown.{setupOf, stateOf, blankLine}
 use Rattle.gate.specs.Shows.{Fine}
 use Rattle.gate.proofs.SoundShows.{accepted-fine}
 use Rattle.soundness.specs.Tests.{every, allBelow, joined, setIn}
-use Rattle.soundness.specs.Clauses.{laid, ofBackground, lineSound, linesSound, backgroundSound, everyone}
+use Rattle.soundness.specs.Clauses.{laid, ofBackground, backgroundSound, everyone}
 use Rattle.soundness.specs.Clauses.{isReal, chargeSound, chargesSound}
 use Rattle.soundness.proofs.Tests.{every-has, all-at, distinct-is}
 use Rattle.soundness.proofs.Joined.{not-appended, distinct-left, joined-has, has-joined, joined-distinct}
 use Rattle.soundness.proofs.Sets.{set-has}
-use Rattle.soundness.proofs.Facts.{Clauses, LineFacts, line-facts}
+use Rattle.soundness.proofs.Facts.{Clauses, LineFacts, lines-facts}
 
 module _ (g : Gate) (a : Accepted (setupOf (g .setup))) (t : Trimmed (setupOf (g .setup)))
     (c : Clauses (setupOf (g .setup)) g (stateOf g)
@@ -54,13 +54,7 @@ module _ (g : Gate) (a : Accepted (setupOf (g .setup))) (t : Trimmed (setupOf (g
 
   pub eight : (length (g .lines) ≡ maxClusters)
       × ((k : ℕ) → k < maxClusters → LineFacts u k (getD (g .lines) k blankLine .places))
-  unfolding linesSound
-  eight =
-      let test : ℕ → Bool = λ k. lineSound u k (getD (g .lines) k blankLine .places) in
-      let w = both-true (eqb (length (g .lines)) maxClusters) (allBelow maxClusters test) (c .lines) in (
-        eqb-true (length (g .lines)) maxClusters (w .0),
-        λ k b. line-facts u k (getD (g .lines) k blankLine .places) (all-at maxClusters test (w .1) k b),
-      )
+  eight = lines-facts u (g .lines) (c .lines)
 
   -- past the eight lines there is none
   pub past : (k : ℕ) → maxClusters ≤ k → s .lines k ≡ []

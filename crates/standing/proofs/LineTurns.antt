@@ -2,7 +2,7 @@
 -- Assumes nothing.
 use Prim.Native.Nat.{ℕ, suc, _+_, _-_, _≤_, _<_}
 use mathlib.Core.Path.{_≡_}
-use mathlib.Core.Bool.{true, false, and-false}
+use mathlib.Core.Bool.{Bool, true, false, and-false}
 use mathlib.Core.List.{List, [], _++_}
 use mathlib.Core.Option.{some, none}
 use native.Mathlib.Numerals.{add-one}
@@ -10,16 +10,14 @@ use native.Mathlib.Omega.{arith}
 use lib.Dec.{eqb}
 use lib.ListN.{length, getD}
 use borrow.Author.Tests.{eq-eqb}
-use Rattle.rules.specs.Limits.{maxClusters, maxSize}
-use Rattle.rules.specs.Setup as rules
-use Rattle.places.specs.Places.{unpad}
+use Rattle.rules.specs.Limits.{maxClusters}
+use Rattle.sets.specs.Sets.{member}
 use Rattle.gate.specs.declared.Line.{Line}
 use Rattle.gate.specs.Shown.{blankLine}
 use Rattle.soundness.specs.Tests.{allBelow, joined}
-use Rattle.soundness.specs.Clauses.{laid, lineSound, linesSound}
-use Rattle.standing.specs.Answers.{linesIn, seenFrom, linesSeen}
+use Rattle.standing.specs.Answers.{linesIn, lineFits, linesFit, seenFrom, linesSeen}
 use Rattle.standing.proofs.Turns.{all-not}
-use Rattle.standing.proofs.Queues.{none-if, lineRest}
+use Rattle.standing.proofs.Queues.{none-if}
 
 -- what is left to join, of the lists below n
 module _ (f : ℕ → List ℕ) (k n : ℕ) where
@@ -34,28 +32,19 @@ module _ (f : ℕ → List ℕ) (k n : ℕ) where
   unfolding joined
   joined-end h = let q : n - k ≡ 0 = omega arith in rw q
 
-module _ (u : rules.Setup) where
-  -- all of a line
-  pub line-start : (k : ℕ) (q : List ℕ) → length q ≡ maxSize → lineRest u k 0 q ≡ lineSound u k q
-  unfolding lineRest lineSound laid
-  line-start k q e =
-      let n : 0 + length (unpad q) ≡ length (unpad q) = omega arith in rw (eq-eqb (length q) maxSize e, n)
+module _ (sizes own : List ℕ) (ls : List Line) where
+  -- the line of k is sound
+  abbrev pub fits : ℕ → Bool
+  fits k = lineFits (getD sizes k 0) (member (getD own k 0)) (getD ls k blankLine .places)
 
-  module _ (ls : List Line) where
-    pub line-fails : (k : ℕ) → k < maxClusters → lineSound u k (getD ls k blankLine .places) ≡ false
-        → linesSeen u ls ≡ none
-    unfolding linesSound
-    line-fails k b e =
-        rw (
-          all-not maxClusters (λ (i : ℕ). lineSound u i (getD ls i blankLine .places)) k b e,
-          and-false (eqb (length ls) maxClusters),
-        )
+  pub line-fails : (k : ℕ) → k < maxClusters → fits k ≡ false → linesSeen sizes own ls ≡ none
+  unfolding linesFit
+  line-fails k b e = rw (all-not maxClusters fits k b e, and-false (eqb (length ls) maxClusters))
 
-    pub seen-fails : seenFrom 0 (joined (linesIn ls) 0 maxClusters) ≡ none → linesSeen u ls ≡ none
-    seen-fails e = none-if (linesSound u ls) e
+  pub seen-fails : seenFrom 0 (joined (linesIn ls) 0 maxClusters) ≡ none → linesSeen sizes own ls ≡ none
+  seen-fails e = none-if (linesFit (λ k. getD sizes k 0) (λ k. member (getD own k 0)) ls) e
 
-    pub lines-pass : (s : ℕ) → length ls ≡ maxClusters
-        → allBelow maxClusters (λ (i : ℕ). lineSound u i (getD ls i blankLine .places)) ≡ true
-        → seenFrom 0 (joined (linesIn ls) 0 maxClusters) ≡ some s → linesSeen u ls ≡ some s
-    unfolding linesSound
-    lines-pass s e a q = rw (eq-eqb (length ls) maxClusters e, a) q
+  pub lines-pass : (s : ℕ) → length ls ≡ maxClusters → allBelow maxClusters fits ≡ true
+      → seenFrom 0 (joined (linesIn ls) 0 maxClusters) ≡ some s → linesSeen sizes own ls ≡ some s
+  unfolding linesFit
+  lines-pass s e a q = rw (eq-eqb (length ls) maxClusters e, a) q

@@ -11,14 +11,13 @@ use lib.Dec.{ltb, leb}
 use lib.ListN.{length, getD, drop, drop-of-length-le}
 use lib.Seq.{drop-cons}
 use borrow.Author.Tests.{eq-eqb, ne-eqb, le-leb, lt-leb, ltb-true, ltb-false}
-use Rattle.rules.specs.Limits.{unusedPlace}
-use Rattle.rules.specs.Setup as rules
+use Rattle.rules.specs.Limits.{maxSize, unusedPlace}
 use Rattle.rules.proofs.Tests.{by-test, both-true}
 use Rattle.sets.specs.Sets.{member, withOf}
 use Rattle.places.specs.Places.{unpad, usedFirst, blank}
 use Rattle.soundness.specs.Tests.{every}
-use Rattle.soundness.specs.Clauses.{laid, ofCluster}
-use Rattle.standing.specs.Answers.{seenFrom, seenIf}
+use Rattle.soundness.specs.Clauses.{laid}
+use Rattle.standing.specs.Answers.{lineFits, seenFrom, queueSeen}
 
 -- WHERE THE USED PLACES END
 
@@ -46,69 +45,66 @@ none-if false e = refl
 
 -- A QUEUE OF ANY TEST
 
--- who is seen from here on, after s
-unfoldable pub queueRest : (ℕ → Bool) → List ℕ → ℕ → Option ℕ
-queueRest p q s = seenIf (usedFirst q && every p (unpad q)) s (unpad q)
-
-pub queue-start : (n : ℕ) (p : ℕ → Bool) (q : List ℕ) (s : ℕ) → length q ≡ n
-    → queueRest p q s ≡ seenIf (laid n q && every p (unpad q)) s (unpad q)
-unfolding queueRest laid
-queue-start n p q s e = rw (eq-eqb (length q) n e)
-
 module _ (p : ℕ → Bool) (q : List ℕ) (i s x : ℕ) (b : i < length q) (e : x ≡ getD q i 0)
     (u : getD q i 0 ≡ unusedPlace → ⊥) where
   pub queue-turn : p x ≡ true → member s x ≡ false
-      → queueRest p (drop i q) s ≡ queueRest p (drop (i + 1) q) (withOf s x)
-  unfolding queueRest unpad usedFirst every seenFrom
+      → queueSeen p (drop i q) s ≡ queueSeen p (drop (i + 1) q) (withOf s x)
+  unfolding queueSeen unpad usedFirst every seenFrom
   queue-turn t n = rw (add-one, drop-cons q i 0, ne-eqb (getD q i 0) unusedPlace u, ← e, t, n)
 
-  pub queue-bad : p x ≡ false → queueRest p (drop i q) s ≡ none
-  unfolding queueRest unpad usedFirst every
+  pub queue-bad : p x ≡ false → queueSeen p (drop i q) s ≡ none
+  unfolding queueSeen unpad usedFirst every
   queue-bad t =
       rw (drop-cons q i 0, ne-eqb (getD q i 0) unusedPlace u, ← e, t, and-false (usedFirst (drop (suc i) q)))
 
-  pub queue-twice : member s x ≡ true → queueRest p (drop i q) s ≡ none
-  unfolding queueRest unpad usedFirst seenFrom
+  pub queue-twice : member s x ≡ true → queueSeen p (drop i q) s ≡ none
+  unfolding queueSeen unpad usedFirst seenFrom
   queue-twice m =
       rw (drop-cons q i 0, ne-eqb (getD q i 0) unusedPlace u, ← e, m)
       (none-if (usedFirst (drop (suc i) q) && every p (x ∷ unpad (drop (suc i) q))) refl)
 
-pub queue-end : (p : ℕ → Bool) (q : List ℕ) (s : ℕ) → Ended q → queueRest p q s ≡ cond (blank q) (some s) none
-unfolding queueRest every seenFrom
+pub queue-end : (p : ℕ → Bool) (q : List ℕ) (s : ℕ) → Ended q → queueSeen p q s ≡ cond (blank q) (some s) none
+unfolding queueSeen every seenFrom
 queue-end p q s h = rw (h .nobody, h .rest) (by-test (blank q) (λ e. rw e) (λ e. rw e))
 
 -- A LINE
 
--- the line of k from its place j on
-unfoldable pub lineRest : rules.Setup → ℕ → ℕ → List ℕ → Bool
-lineRest u k j q = usedFirst q && (leb (j + length (unpad q)) (u .size k) && every (ofCluster u k) (unpad q))
+-- a line of m from its place j on
+unfoldable pub lineRest : ℕ → (ℕ → Bool) → ℕ → List ℕ → Bool
+lineRest m p j q = usedFirst q && (leb (j + length (unpad q)) m && every p (unpad q))
+
+-- all of it
+pub line-start : (m : ℕ) (p : ℕ → Bool) (q : List ℕ) → length q ≡ maxSize → lineRest m p 0 q ≡ lineFits m p q
+unfolding lineRest lineFits laid
+line-start m p q e =
+    let n : 0 + length (unpad q) ≡ length (unpad q) = omega arith in rw (eq-eqb (length q) maxSize e, n)
 
 pub stands-below : (j m : ℕ) (b : Bool) → (ltb j m && b) ≡ true → j < m
 stands-below j m b e = ltb-true j m (both-true (ltb j m) b e .0)
 
-module _ (u : rules.Setup) (k : ℕ) (q : List ℕ) (j x : ℕ) (b : j < length q) (e : x ≡ getD q j 0)
+module _ (m : ℕ) (p : ℕ → Bool) (q : List ℕ) (j x : ℕ) (b : j < length q) (e : x ≡ getD q j 0)
     (used : getD q j 0 ≡ unusedPlace → ⊥) where
-  pub line-turn : (ltb j (u .size k) && ofCluster u k x) ≡ true
-      → lineRest u k j (drop j q) ≡ lineRest u k (j + 1) (drop (j + 1) q)
+  pub line-turn : (ltb j m && p x) ≡ true
+      → lineRest m p j (drop j q) ≡ lineRest m p (j + 1) (drop (j + 1) q)
   unfolding lineRest unpad usedFirst every
   line-turn t =
-      let w = both-true (ltb j (u .size k)) (ofCluster u k x) t in
+      let w = both-true (ltb j m) (p x) t in
       let l = unpad (drop (suc j) q) in
       let n : j + length (x ∷ l) ≡ j + 1 + length l = omega arith in
       rw (drop-cons q j 0, ne-eqb (getD q j 0) unusedPlace used, ← e, w .1, n, add-one j)
 
-  pub line-bad : (ltb j (u .size k) && ofCluster u k x) ≡ false → lineRest u k j (drop j q) ≡ false
+  pub line-bad : (ltb j m && p x) ≡ false → lineRest m p j (drop j q) ≡ false
   unfolding lineRest unpad usedFirst every
   line-bad t =
       rw (drop-cons q j 0, ne-eqb (getD q j 0) unusedPlace used, ← e)
-      (by-test (ltb j (u .size k))
+      (by-test (ltb j m)
       (λ f.
-      let n : ofCluster u k x ≡ false = rw f at t in
-      rw (n, and-false (leb (j + length (x ∷ unpad (drop (suc j) q))) (u .size k)))
+      let n : p x ≡ false = rw f at t in
+      rw (n, and-false (leb (j + length (x ∷ unpad (drop (suc j) q))) m))
       (and-false (usedFirst (drop (suc j) q))))
       (λ f.
       let n : ℕ = j + length (x ∷ unpad (drop (suc j) q)) in
-      let long : leb n (u .size k) ≡ false = lt-leb n (u .size k) (omega (arith, ltb-false j (u .size k) f)) in
+      let long : leb n m ≡ false = lt-leb n m (omega (arith, ltb-false j m f)) in
       rw long (and-false (usedFirst (drop (suc j) q)))))
 
   pub stands-new : (s : ℕ) (others : List ℕ) → member s x ≡ false
@@ -118,10 +114,10 @@ module _ (u : rules.Setup) (k : ℕ) (q : List ℕ) (j x : ℕ) (b : j < length 
 
   pub stands-twice : (s : ℕ) (others : List ℕ) → member s x ≡ true → seenFrom s (unpad (drop j q) ++ others) ≡ none
   unfolding unpad seenFrom
-  stands-twice s others m = rw (drop-cons q j 0, ne-eqb (getD q j 0) unusedPlace used, ← e, m)
+  stands-twice s others f = rw (drop-cons q j 0, ne-eqb (getD q j 0) unusedPlace used, ← e, f)
 
-pub line-end : (u : rules.Setup) (k : ℕ) (q : List ℕ) (j : ℕ) → j ≤ u .size k → Ended q → lineRest u k j q ≡ blank q
+pub line-end : (m : ℕ) (p : ℕ → Bool) (q : List ℕ) (j : ℕ) → j ≤ m → Ended q → lineRest m p j q ≡ blank q
 unfolding lineRest every
-line-end u k q j b h =
+line-end m p q j b h =
     let n : j + 0 ≡ j = omega arith in
-    rw (h .nobody, h .rest, n, le-leb j (u .size k) b) (by-test (blank q) (λ e. rw e) (λ e. rw e))
+    rw (h .nobody, h .rest, n, le-leb j m b) (by-test (blank q) (λ e. rw e) (λ e. rw e))

@@ -2,12 +2,11 @@
 -- Assumes nothing.
 use Prim.Native.Nat.{ℕ, _≤_, _<_}
 use mathlib.Core.Path.{_≡_, refl, sym, _∙_}
-use mathlib.Core.Bool.{Bool, true}
+use mathlib.Core.Bool.{true}
 use mathlib.Core.List.{List}
 use mathlib.Core.Option.{Option, some, none}
 use native.Mathlib.Omega.{arith}
-use lib.Dec.{eqb, ltb}
-use lib.ListN.{length, getD}
+use lib.Dec.{ltb}
 use borrow.Author.Tests.{ltb-true}
 use Rattle.rules.specs.Limits.{maxClusters, maxClients}
 use Rattle.rules.specs.Lists.{has}
@@ -16,13 +15,12 @@ use Rattle.rules.proofs.Tests.{by-test, both-true, either-true}
 use Rattle.rules.proofs.Lists.{has-append}
 use Rattle.places.specs.Places.{unpad}
 use Rattle.gate.specs.declared.Line.{Line}
-use Rattle.gate.specs.Shown.{blankLine}
-use Rattle.soundness.specs.Tests.{every, allBelow, joined}
-use Rattle.soundness.specs.Clauses.{laid, everyone, ofBackground, lineSound, linesSound, backgroundSound, standSound}
-use Rattle.soundness.proofs.Tests.{every-has, all-at}
+use Rattle.soundness.specs.Tests.{every, joined}
+use Rattle.soundness.specs.Clauses.{laid, everyone, ofBackground, linesSound, backgroundSound, standSound}
+use Rattle.soundness.proofs.Tests.{every-has}
 use Rattle.soundness.proofs.Joined.{joined-has}
-use Rattle.soundness.proofs.Facts.{line-facts}
-use Rattle.standing.specs.Answers.{linesIn, seenFrom, linesSeen, backgroundSeen, standing}
+use Rattle.soundness.proofs.Facts.{lines-facts}
+use Rattle.standing.specs.Answers.{linesIn, seenFrom, seenIf, standing}
 use Rattle.standing.proofs.Once.{andThen, seen-append, seen-once}
 
 then-none : (o : Option ℕ) → andThen o (λ (t : ℕ). none) ≡ none
@@ -32,13 +30,9 @@ then-none (some s) = refl
 module _ (u : rules.Setup) (few : u .clients ≤ maxClients) where
   in-lines : (ls : List Line) → linesSound u ls ≡ true → (x : ℕ) → has x (joined (linesIn ls) 0 maxClusters) ≡ true
       → x < maxClients
-  unfolding linesSound
   in-lines ls e x h =
-      let test : ℕ → Bool = λ k. lineSound u k (getD ls k blankLine .places) in
-      let w = both-true (eqb (length ls) maxClusters) (allBelow maxClusters test) e in
       joined-has (linesIn ls) 0 maxClusters x h (λ j a b i.
-      let f = line-facts u j (getD ls j blankLine .places) (all-at maxClusters test (w .1) j (omega arith)) in
-      omega (arith, f .own x i .known))
+      omega (arith, lines-facts u ls e .1 j (omega arith) .own x i .known))
 
   in-background : (q : List ℕ) → backgroundSound u q ≡ true → (x : ℕ) → has x (unpad q) ≡ true → x < maxClients
   unfolding backgroundSound
@@ -49,7 +43,8 @@ module _ (u : rules.Setup) (few : u .clients ≤ maxClients) where
 
   -- the lines, and then the background queue
   pub standing-is : (ls : List Line) (q : List ℕ)
-      → standing u ls q ≡ andThen (linesSeen u ls) (λ (t : ℕ). backgroundSeen u t q)
+      → standing u ls q ≡ andThen (seenIf (linesSound u ls) 0 (joined (linesIn ls) 0 maxClusters))
+      (λ (t : ℕ). seenIf (backgroundSound u q) t (unpad q))
   unfolding standing standSound
   standing-is ls q =
       by-test (linesSound u ls)

@@ -1,19 +1,20 @@
--- Who is seen in the lines and the background queue: what the functions of this crate answer.
+-- A setup's clients as sets, and who is seen in the lines and in a queue: what the functions of this crate answer.
 -- Assumes nothing.
 use Prim.Native.Nat.{ℕ}
-use mathlib.Core.Bool.{Bool, cond}
+use mathlib.Core.Bool.{Bool, not, _&&_, cond}
 use mathlib.Core.List.{List, [], _∷_}
 use mathlib.Core.Option.{Option, some, none}
-use lib.Dec.{eqb}
-use lib.ListN.{getD}
-use Rattle.rules.specs.Limits.{maxClusters}
+use lib.Dec.{eqb, ltb, leb}
+use lib.ListN.{length, getD, drop}
+use Rattle.rules.specs.Limits.{maxClusters, maxSize, maxClients}
 use Rattle.rules.specs.Setup as rules
-use Rattle.sets.specs.Sets.{member, withOf}
-use Rattle.places.specs.Places.{unpad}
+use Rattle.sets.specs.Sets.{member, setOf, withOf}
+use Rattle.places.specs.Places.{unpad, usedFirst}
 use Rattle.gate.specs.declared.Line.{Line}
-use Rattle.gate.specs.Shown.{blankLine}
-use Rattle.soundness.specs.Tests.{every, joined, setIn}
-use Rattle.soundness.specs.Clauses.{everyone, linesSound, backgroundSound, standSound}
+use Rattle.gate.specs.Shown.{blankLine, showRooms}
+use Rattle.soundness.specs.Tests.{every, allBelow, zeros, joined, setIn}
+use Rattle.soundness.specs.Clauses.{laid, everyone, standSound}
+use Rattle.standing.specs.declared.Clients.{Clients}
 use Rattle.standing.specs.declared.Seen.{Seen}
 use Rattle.standing.specs.declared.Seen.the-variants.{Unsound, Once}
 
@@ -21,9 +22,42 @@ use Rattle.standing.specs.declared.Seen.the-variants.{Unsound, Once}
 abbrev pub holdsOnly : ℕ → List ℕ → Bool
 holdsOnly x l = every (λ (y : ℕ). eqb y x) l
 
+-- sizes past K and rows past N are zero
+abbrev pub trimmed : List ℕ → List ℕ → List ℕ → List ℕ → ℕ → ℕ → Bool
+trimmed sizes kinds homes priorities k n =
+    zeros (drop k sizes) && (zeros (drop n kinds) && (zeros (drop n homes) && zeros (drop n priorities)))
+
+-- CLIENTS
+
+-- below n, and real-time or best-effort
+module _ (kinds : List ℕ) (n c : ℕ) where
+  abbrev pub realBelow : Bool
+  realBelow = ltb c n && eqb (getD kinds c 0) 0
+
+  abbrev pub effortBelow : Bool
+  effortBelow = ltb c n && not (eqb (getD kinds c 0) 0)
+
+abbrev pub clientsOf : List ℕ → List ℕ → ℕ → Clients
+clientsOf kinds homes n = record {
+  own = showRooms (λ (c : ℕ). getD homes c 0) (realBelow kinds n);
+  real = setOf maxClients (realBelow kinds n);
+  effort = setOf maxClients (effortBelow kinds n);
+}
+
+-- LINES AND QUEUES
+
 -- the lines that the places hold
 abbrev pub linesIn : List Line → ℕ → List ℕ
 linesIn ls k = unpad (getD ls k blankLine .places)
+
+-- at most m in a line, and each of them passes the test
+unfoldable pub lineFits : ℕ → (ℕ → Bool) → List ℕ → Bool
+lineFits m p q = laid maxSize q && (leb (length (unpad q)) m && every p (unpad q))
+
+-- so in each line, by its own size and test
+unfoldable pub linesFit : (ℕ → ℕ) → (ℕ → ℕ → Bool) → List Line → Bool
+linesFit m p ls =
+    eqb (length ls) maxClusters && allBelow maxClusters (λ (k : ℕ). lineFits (m k) (p k) (getD ls k blankLine .places))
 
 -- WHO IS SEEN
 
@@ -41,14 +75,17 @@ seenFrom s (x ∷ l) = cond (member s x) none (seenFrom (withOf s x) l)
 abbrev pub seenIf : Bool → ℕ → List ℕ → Option ℕ
 seenIf b s l = cond b (seenFrom s l) none
 
-module _ (u : rules.Setup) where
-  abbrev pub linesSeen : List Line → Option ℕ
-  linesSeen ls = seenIf (linesSound u ls) 0 (joined (linesIn ls) 0 maxClusters)
+-- by the sizes, and the set of those who may stand in each line
+abbrev pub linesSeen : List ℕ → List ℕ → List Line → Option ℕ
+linesSeen sizes own ls =
+    seenIf (linesFit (λ (k : ℕ). getD sizes k 0) (λ (k : ℕ). member (getD own k 0)) ls) 0
+    (joined (linesIn ls) 0 maxClusters)
 
-  abbrev pub backgroundSeen : ℕ → List ℕ → Option ℕ
-  backgroundSeen s q = seenIf (backgroundSound u q) s (unpad q)
+-- the set s with those in a queue, each of whom passes the test
+unfoldable pub queueSeen : (ℕ → Bool) → List ℕ → ℕ → Option ℕ
+queueSeen p q s = seenIf (usedFirst q && every p (unpad q)) s (unpad q)
 
-  -- the set of everyone in a line or the background queue, if all is sound there
-  unfoldable pub standing : List Line → List ℕ → Option ℕ
-  standing ls q =
-      cond (standSound u ls q (everyone (linesIn ls) (unpad q))) (some (setIn (everyone (linesIn ls) (unpad q)))) none
+-- the set of everyone in a line or the background queue, if all is sound there
+unfoldable pub standing : rules.Setup → List Line → List ℕ → Option ℕ
+standing u ls q =
+    cond (standSound u ls q (everyone (linesIn ls) (unpad q))) (some (setIn (everyone (linesIn ls) (unpad q)))) none

@@ -1,21 +1,26 @@
-// The setup, the lines and the background queue: whether they are sound, and who stands there.
+// The setup, its clients as sets, the lines and the queues: whether they are sound, and who stands there.
 
-use gate::Cluster;
 use gate::Gate;
 use gate::Line;
 use gate::Setup;
 ghost use mathlib.Core.Path.{_≡_};
 ghost use mathlib.Core.Bool.{_&&_};
-ghost use Prim.Native.Nat.{_<_};
+ghost use Prim.Native.Nat.{ℕ, _+_, _≤_, _<_};
 ghost use lib.Dec.{ltb};
-ghost use lib.ListN.{drop};
-ghost use Rattle.rules.specs.Limits.{maxClusters};
+ghost use lib.ListN.{getD, drop};
+ghost use Rattle.rules.specs.Limits.{maxClusters, maxClients};
+ghost use Rattle.sets.specs.Sets.{member};
 ghost use Rattle.places.specs.Places.{blank};
-ghost use Rattle.gate.specs.Shown.{setupOf};
-ghost use Rattle.gate.specs.Shows.{Fine};
 ghost use Rattle.soundness.specs.Tests.{zeros};
-ghost use Rattle.soundness.specs.Clauses.{isTrimmed, setupSound, isReal, ofCluster, ofBackground};
-ghost use Rattle.standing.specs.Answers.{holdsOnly, seenOf, linesSeen, backgroundSeen, standing};
+ghost use Rattle.soundness.specs.Clauses.{setupSound};
+ghost use Rattle.standing.specs.Answers.{holdsOnly, trimmed, clientsOf, seenOf, linesSeen, queueSeen};
+
+// A setup's clients as sets: the real-time clients of each cluster, all of them, and the best-effort clients.
+pub struct Clients {
+    pub own: [u64; 8],
+    pub real: u64,
+    pub effort: u64,
+}
 
 // Who is seen in lines or a queue, each of them once; or that something there is not sound.
 pub enum Seen {
@@ -61,24 +66,26 @@ fn zero_priorities_from(q: &[u16], from: usize) -> bool
 }
 
 // Client rows past N, and sizes past K, are zero.
-fn is_trimmed(s: Setup) -> bool
-    ensures { λ r. ⌜ r ≡ isTrimmed s ⌝ }
+fn is_trimmed<'a>(
+    sizes: &'a [u8; 8],
+    kinds: &'a [u8; 64],
+    homes: &'a [u8; 64],
+    priorities: &'a [u16; 64],
+    k: usize,
+    n: usize,
+) -> bool
+    ensures { λ r. ⌜ r ≡ trimmed (now (sizes .entry)) (now (kinds .entry)) (now (homes .entry)) (now (priorities .entry)) k n ⌝ }
 {
-    let sizes = s.sizes;
-    if !zeros_from(&sizes, gate::wide(s.clusters)) {
+    if !zeros_from(sizes, k) {
         return false;
     }
-    let n = gate::wide(s.clients);
-    let kinds = s.kinds;
-    if !zeros_from(&kinds, n) {
+    if !zeros_from(kinds, n) {
         return false;
     }
-    let homes = s.homes;
-    if !zeros_from(&homes, n) {
+    if !zeros_from(homes, n) {
         return false;
     }
-    let priorities = s.priorities;
-    zero_priorities_from(&priorities, n)
+    zero_priorities_from(priorities, n)
 }
 
 pub fn setup_sound(s: Setup) -> bool
@@ -88,67 +95,74 @@ pub fn setup_sound(s: Setup) -> bool
     if !gate::is_accepted(verdict) {
         return false;
     }
-    is_trimmed(s)
+    is_trimmed(
+        &s.sizes,
+        &s.kinds,
+        &s.homes,
+        &s.priorities,
+        gate::wide(s.clusters),
+        gate::wide(s.clients),
+    )
+}
+
+// ITS CLIENTS
+
+// The clients below c, with c.
+fn with_client(kinds: &[u8; 64], homes: &[u8; 64], below: Clients, c: usize) -> Clients
+    requires { ⌜ (c < maxClients) × (getD (now homes) c 0 < maxClusters) × (below ≡ clientsOf (now kinds) (now homes) c) ⌝ }
+    ensures { λ r. ⌜ r ≡ clientsOf (now (kinds .entry)) (now (homes .entry)) (c + 1) ⌝ }
+{
+    let mut next = below;
+    if kinds[c] != 0 {
+        next.effort = sets::with(next.effort, c);
+        return next;
+    }
+    let k = gate::wide(homes[c]);
+    next.own[k] = sets::with(next.own[k], c);
+    next.real = sets::with(next.real, c);
+    next
+}
+
+// The clients below n: one pass over their rows.
+pub fn clients_below<'a>(kinds: &'a [u8; 64], homes: &'a [u8; 64], n: usize) -> Clients
+    requires { ⌜ (n ≤ maxClients) × ((c : ℕ) → getD (now homes) c 0 < maxClusters) ⌝ }
+    ensures { λ r. ⌜ r ≡ clientsOf (now (kinds .entry)) (now (homes .entry)) n ⌝ }
+{
+    let mut all = Clients {
+        own: [0; 8],
+        real: 0,
+        effort: 0,
+    };
+    let mut c: usize = 0;
+    while c < n {
+        all = with_client(kinds, homes, all, c);
+        c += 1;
+    }
+    all
 }
 
 // LINES AND QUEUES
 
 // Nothing but unused places from one on.
-pub fn blank_from(q: &[u8], from: usize) -> bool
+fn blank_from(q: &[u8], from: usize) -> bool
     ensures { λ r. ⌜ r ≡ blank (drop from (now (q .entry))) ⌝ }
 {
     holds_only_from(q, from, places::UNUSED)
 }
 
-// Below N and real-time.
-pub fn is_real(s: Setup, c: usize) -> bool
-    requires { ⌜ Fine s ⌝ }
-    ensures { λ r. ⌜ r ≡ isReal (setupOf s) c ⌝ }
+// Client c may stand at a place of a line of m, whose cluster's clients are given.
+fn may_stand(m: usize, own: u64, at: usize, c: usize) -> bool
+    ensures { λ r. ⌜ r ≡ (ltb at m && member own c) ⌝ }
 {
-    if gate::wide(s.clients) <= c {
+    if m <= at {
         return false;
     }
-    s.kinds[c] == 0
-}
-
-// And of cluster k.
-pub fn of_cluster(s: Setup, k: Cluster, c: usize) -> bool
-    requires { ⌜ Fine s ⌝ }
-    ensures { λ r. ⌜ r ≡ ofCluster (setupOf s) (k .0) c ⌝ }
-{
-    if !is_real(s, c) {
-        return false;
-    }
-    gate::wide(s.homes[c]) == k.0
-}
-
-// Below N and best-effort.
-pub fn of_background(s: Setup, c: usize) -> bool
-    requires { ⌜ Fine s ⌝ }
-    ensures { λ r. ⌜ r ≡ ofBackground (setupOf s) c ⌝ }
-{
-    if gate::wide(s.clients) <= c {
-        return false;
-    }
-    s.kinds[c] != 0
-}
-
-// Client c may stand at a place of the line of cluster k.
-fn may_stand(s: Setup, k: Cluster, at: usize, c: usize) -> bool
-    requires { ⌜ (k .0 < maxClusters) × Fine s ⌝ }
-    ensures { λ r. ⌜ r ≡ (ltb at (setupOf s .size (k .0)) && ofCluster (setupOf s) (k .0) c) ⌝ }
-{
-    let i = k.0;
-    if gate::wide(s.sizes[i]) <= at {
-        return false;
-    }
-    of_cluster(s, k, c)
+    sets::member(own, c)
 }
 
 // Everyone in a line. The loops are left from inside at the first client seen twice, or out of place.
-fn lines_seen(s: Setup, lines: [Line; 8]) -> Seen
-    requires { ⌜ Fine s ⌝ }
-    ensures { λ r. ⌜ seenOf r ≡ linesSeen (setupOf s) lines ⌝ }
+pub fn lines_seen(sizes: &[u8; 8], own: [u64; 8], lines: [Line; 8]) -> Seen
+    ensures { λ r. ⌜ seenOf r ≡ linesSeen (now (sizes .entry)) own lines ⌝ }
 {
     let mut seen: u64 = 0;
     let mut k: usize = 0;
@@ -156,6 +170,8 @@ fn lines_seen(s: Setup, lines: [Line; 8]) -> Seen
         if k >= Gate::MAX_CLUSTERS {
             return Seen::Once(seen);
         }
+        let m = gate::wide(sizes[k]);
+        let known = own[k];
         let line = lines[k];
         let q = line.places;
         let mut j: usize = 0;
@@ -164,7 +180,7 @@ fn lines_seen(s: Setup, lines: [Line; 8]) -> Seen
                 break 'places;
             }
             let c = gate::wide(q[j]);
-            if !may_stand(s, Cluster(k), j, c) {
+            if !may_stand(m, known, j, c) {
                 break 'lines;
             }
             if sets::member(seen, c) {
@@ -181,40 +197,28 @@ fn lines_seen(s: Setup, lines: [Line; 8]) -> Seen
     Seen::Unsound
 }
 
-// Everyone in the background queue, added to a set of others.
-fn background_seen(s: Setup, q: [u8; 64], others: u64) -> Seen
-    requires { ⌜ Fine s ⌝ }
-    ensures { λ r. ⌜ seenOf r ≡ backgroundSeen (setupOf s) others q ⌝ }
+// Everyone in a queue of those who may stand there, added to a set of others.
+pub fn queue_seen(q: &[u8], known: u64, others: u64) -> Seen
+    ensures { λ r. ⌜ seenOf r ≡ queueSeen (member known) (now (q .entry)) others ⌝ }
 {
-    let mut seen: u64 = others;
+    let mut everyone: u64 = others;
     let mut i: usize = 0;
-    while i < Gate::MAX_CLIENTS {
+    while i < q.len() {
         if q[i] == places::UNUSED {
             break;
         }
         let c = gate::wide(q[i]);
-        if !of_background(s, c) {
+        if !sets::member(known, c) {
             return Seen::Unsound;
         }
-        if sets::member(seen, c) {
+        if sets::member(everyone, c) {
             return Seen::Unsound;
         }
-        seen = sets::with(seen, c);
+        everyone = sets::with(everyone, c);
         i += 1;
     }
-    if !blank_from(&q, i) {
+    if !blank_from(q, i) {
         return Seen::Unsound;
     }
-    Seen::Once(seen)
-}
-
-// Everyone in a line or the background queue.
-pub fn everyone_seen(s: Setup, lines: [Line; 8], background: [u8; 64]) -> Seen
-    requires { ⌜ Fine s ⌝ }
-    ensures { λ r. ⌜ seenOf r ≡ standing (setupOf s) lines background ⌝ }
-{
-    let Seen::Once(seen) = lines_seen(s, lines) else {
-        return Seen::Unsound;
-    };
-    background_seen(s, background, seen)
+    Seen::Once(everyone)
 }

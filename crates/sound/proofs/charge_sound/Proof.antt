@@ -1,13 +1,11 @@
 -- `sound::charge_sound` meets its contract.
 -- Assumes nothing.
 use mathlib.Core.Path.{sym, _∙_}
-use mathlib.Core.Bool.{_&&_, or-true, or-false}
+use mathlib.Core.Bool.{or-true, or-false}
 use borrow.Author.Tests.{lt-leb, le-leb, eq-eqb, ne-eqb}
 use borrow.Author.Needs.{needs}
-use lib.Dec.{ltb}
 use Rattle.rules.specs.Limits.{maxCharge}
-use Rattle.rules.specs.Setup.{realTime}
-use Rattle.gate.specs.Shown.{setupOf}
+use Rattle.sets.specs.Sets.{member}
 use Rattle.sound.proofs.charge_sound.Statement.{statement}
 use Rattle.sound.proofs.charge_sound.Tie as tie
 
@@ -18,16 +16,16 @@ returns-2 : tie.Need-returns-2
 returns-2 c =
     let a = c .before .before .args in
     rw (le-leb _ maxCharge (c .before .if1 .left), eq-eqb _ 0 (c .if2 .taken))
-    (sym (or-true (ltb (a .owner) (a .s .clients) && realTime (setupOf (a .s)) (a .owner))))
+    (sym (or-true (member (a .real) (a .owner))))
 
-is-real-requires : tie.Need-is-real-requires
-is-real-requires c κs = search needs
+member-requires : tie.Need-member-requires
+member-requires c κs = search needs
 
 returns-3 : tie.Need-returns-3
 returns-3 c =
     let a = c .before .before .before .args in
     rw (le-leb _ maxCharge (c .before .before .if1 .left), ne-eqb _ 0 (c .before .if2 .left))
-    (c .is-real .ensures ∙ sym (or-false (ltb (a .owner) (a .s .clients) && realTime (setupOf (a .s)) (a .owner))))
+    (c .member .ensures ∙ sym (or-false (member (a .real) (a .owner))))
 
 pub charge-sound-spec : {M : Type 1} → statement M
-charge-sound-spec = tie.close (tie.spec returns returns-2 is-real-requires returns-3)
+charge-sound-spec = tie.close (tie.spec returns returns-2 member-requires returns-3)

@@ -10,47 +10,42 @@ use lib.ListN.{length, getD}
 use borrow.Author.Tests.{not-true, not-false, eq-eqb}
 use borrow.Author.Needs.{needs}
 use Rattle.rules.specs.Limits.{maxClients}
-use Rattle.gate.specs.declared.Setup.{Setup}
-use Rattle.gate.specs.Shown.{setupOf}
 use Rattle.soundness.specs.Tests.{allBelow}
-use Rattle.soundness.specs.Clauses.{chargeSound, chargesSound}
 use Rattle.standing.proofs.Turns.{all-none, all-more, all-not, all-done}
+use Rattle.sound.specs.Answers.{chargeFits, chargesFit}
 use Rattle.sound.proofs.charges_sound.Statement.{statement}
 use Rattle.sound.proofs.charges_sound.Tie as tie
 
-abbrev fits : Setup → List ℕ → ℕ → Bool
-fits s q d = chargeSound (setupOf s) d (getD q d 0)
+abbrev fits : ℕ → List ℕ → ℕ → Bool
+fits real q c = chargeFits real c (getD q c 0)
 
 abbrev Inv-loop : tie.InvT-loop
-Inv-loop s q c₀ c =
-    (c ≤ maxClients) × (allBelow c (fits s q) ≡ true)
+Inv-loop q real c₀ c = (c ≤ maxClients) × (allBelow c (fits real q) ≡ true)
 
 abbrev μ-loop : tie.MeasureT-loop
-μ-loop s q c₀ c = maxClients - c
+μ-loop q real c₀ c = maxClients - c
 
 loop-holds : tie.Need-loop-holds Inv-loop μ-loop
-loop-holds c =
-    let a = c .args in
-    (omega arith, all-none (fits (a .s) (a .t2)))
+loop-holds c = (omega arith, all-none (fits (c .args .real) (c .args .q .now)))
 
 mul-charge-sound : tie.Need-mul-charge-sound Inv-loop μ-loop
 mul-charge-sound c = search needs
 
-array-read-charge-sound : tie.Need-array-read-charge-sound Inv-loop μ-loop
-array-read-charge-sound c = search needs
+element-copy-out-charge-sound : tie.Need-element-copy-out-charge-sound Inv-loop μ-loop
+element-copy-out-charge-sound c = search needs
 
 charge-sound-requires : tie.Need-charge-sound-requires Inv-loop μ-loop
 charge-sound-requires c κs = search needs
 
 returns : tie.Need-returns Inv-loop μ-loop
-unfolding chargesSound
+unfolding chargesFit
 returns c =
-    let o = c .before .before .before in
+    let o = c .before .before .before .before in
     let a = o .before .args in
     rw (
-      all-not maxClients (fits (a .s) (a .t2)) (o .loop .c) (omega arith)
+      all-not maxClients (fits (a .real) (a .q .now)) (o .loop .c) (omega arith)
           (sym (c .before .charge-sound .ensures) ∙ not-true _ (c .if1 .taken)),
-      and-false (eqb (length (a .t2)) maxClients),
+      and-false (eqb (length (a .q .now)) maxClients),
     )
 
 add-c : tie.Need-add-c Inv-loop μ-loop
@@ -61,22 +56,21 @@ loop-less c = omega arith
 
 loop-again : tie.Need-loop-again Inv-loop μ-loop
 loop-again c =
-    let o = c .before .before .before in
+    let o = c .before .before .before .before in
     let a = o .before .args in (
       omega arith,
-      all-more (o .loop .c) (fits (a .s) (a .t2))
+      all-more (o .loop .c) (fits (a .real) (a .q .now))
           (sym (c .before .charge-sound .ensures) ∙ not-false _ (c .if1 .left)) (o .loop .inv .1),
     )
 
 returns-2 : tie.Need-returns-2 Inv-loop μ-loop
-unfolding chargesSound
+unfolding chargesFit
 returns-2 c =
     let o = c .before in
     let a = o .before .args in
-    let n : length (a .t2) ≡ maxClients = search needs in
     rw (
-      eq-eqb (length (a .t2)) maxClients n,
-      all-done maxClients (o .loop .c) (fits (a .s) (a .t2)) (omega arith) (omega arith) (o .loop .inv .1),
+      eq-eqb (length (a .q .now)) maxClients (o .before .pre),
+      all-done maxClients (o .loop .c) (fits (a .real) (a .q .now)) (omega arith) (omega arith) (o .loop .inv .1),
     )
 
 pub charges-sound-spec : {M : Type 1} → statement M
@@ -87,7 +81,7 @@ charges-sound-spec =
     μ-loop
     loop-holds
     mul-charge-sound
-    array-read-charge-sound
+    element-copy-out-charge-sound
     charge-sound-requires
     returns
     add-c

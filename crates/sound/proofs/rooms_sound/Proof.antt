@@ -11,36 +11,33 @@ use borrow.Author.Tests.{not-true, not-false, eq-eqb}
 use borrow.Author.Needs.{needs}
 use Rattle.rules.specs.Limits.{maxClusters}
 use Rattle.gate.specs.declared.Line.{Line}
-use Rattle.gate.specs.declared.Setup.{Setup}
-use Rattle.gate.specs.Shown.{setupOf}
 use Rattle.soundness.specs.Tests.{allBelow}
-use Rattle.soundness.specs.Clauses.{roomSound, roomsSound}
 use Rattle.standing.specs.Answers.{linesIn}
 use Rattle.standing.proofs.Turns.{all-none, all-more, all-not, all-done}
+use Rattle.sound.specs.Answers.{roomFits, roomsFit}
 use Rattle.sound.proofs.rooms_sound.Statement.{statement}
 use Rattle.sound.proofs.rooms_sound.Tie as tie
 
-abbrev fits : Setup → ℕ → List Line → List ℕ → ℕ → Bool
-fits s stand lines rooms k = roomSound (setupOf s) stand k (linesIn lines k) (getD rooms k 0)
+abbrev fits : List ℕ → List ℕ → ℕ → List Line → List ℕ → ℕ → Bool
+fits sizes own stand lines rooms k =
+    roomFits (getD sizes k 0) (getD own k 0) stand (linesIn lines k) (getD rooms k 0)
 
 abbrev Inv-loop : tie.InvT-loop
-Inv-loop s stand lines rooms k₀ k =
-    (k ≤ maxClusters)
-    × (allBelow k (fits s stand lines rooms) ≡ true)
+Inv-loop sizes stand own lines rooms k₀ k =
+    (k ≤ maxClusters) × (allBelow k (fits sizes own stand lines rooms) ≡ true)
 
 abbrev μ-loop : tie.MeasureT-loop
-μ-loop s stand lines rooms k₀ k = maxClusters - k
+μ-loop sizes stand own lines rooms k₀ k = maxClusters - k
 
 loop-holds : tie.Need-loop-holds Inv-loop μ-loop
 loop-holds c =
-    let a = c .args in
-    (omega arith, all-none (fits (a .s) (a .stand) (a .t2) (a .t3)))
+    let a = c .args in (omega arith, all-none (fits (a .sizes .now) (a .t2) (a .stand) (a .t4) (a .t5)))
 
-mul-line : tie.Need-mul-line Inv-loop μ-loop
-mul-line c = search needs
+element-copy-out-wide : tie.Need-element-copy-out-wide Inv-loop μ-loop
+element-copy-out-wide c = search needs
 
-array-copy-out-line : tie.Need-array-copy-out-line Inv-loop μ-loop
-array-copy-out-line c = search needs
+wide-requires : tie.Need-wide-requires Inv-loop μ-loop
+wide-requires c κs = search needs
 
 mul-room-sound : tie.Need-mul-room-sound Inv-loop μ-loop
 mul-room-sound c = search needs
@@ -48,18 +45,37 @@ mul-room-sound c = search needs
 array-read-room-sound : tie.Need-array-read-room-sound Inv-loop μ-loop
 array-read-room-sound c = search needs
 
+mul-room-sound-2 : tie.Need-mul-room-sound-2 Inv-loop μ-loop
+mul-room-sound-2 c = search needs
+
+array-copy-out-room-sound : tie.Need-array-copy-out-room-sound Inv-loop μ-loop
+array-copy-out-room-sound c = search needs
+
+mul-room-sound-3 : tie.Need-mul-room-sound-3 Inv-loop μ-loop
+mul-room-sound-3 c = search needs
+
+array-read-room-sound-2 : tie.Need-array-read-room-sound-2 Inv-loop μ-loop
+array-read-room-sound-2 c = search needs
+
 room-sound-requires : tie.Need-room-sound-requires Inv-loop μ-loop
 room-sound-requires c κs = search needs
 
+-- the answer for the room of k
+room : (c : tie.After-room-sound Inv-loop μ-loop)
+    → let o = c .before .before .before .before .before in
+    let a = o .before .args in
+    fits (a .sizes .now) (a .t2) (a .stand) (a .t4) (a .t5) (o .loop .k) ≡ c .room-sound .result
+room c = rw (← c .before .before .wide .ensures) (sym (c .room-sound .ensures))
+
 returns : tie.Need-returns Inv-loop μ-loop
-unfolding roomsSound
+unfolding roomsFit
 returns c =
-    let o = c .before .before .before .before in
+    let o = c .before .before .before .before .before .before in
     let a = o .before .args in
     rw (
-      all-not maxClusters (fits (a .s) (a .stand) (a .t2) (a .t3))
-          (o .loop .k) (omega arith) (sym (c .before .room-sound .ensures) ∙ not-true _ (c .if1 .taken)),
-      and-false (eqb (length (a .t3)) maxClusters),
+      all-not maxClusters (fits (a .sizes .now) (a .t2) (a .stand) (a .t4) (a .t5)) (o .loop .k) (omega arith)
+          (room (c .before) ∙ not-true _ (c .if1 .taken)),
+      and-false (eqb (length (a .t5)) maxClusters),
     )
 
 add-k : tie.Need-add-k Inv-loop μ-loop
@@ -70,24 +86,22 @@ loop-less c = omega arith
 
 loop-again : tie.Need-loop-again Inv-loop μ-loop
 loop-again c =
-    let o = c .before .before .before .before in
+    let o = c .before .before .before .before .before .before in
     let a = o .before .args in (
       omega arith,
-      all-more (o .loop .k)
-          (fits (a .s) (a .stand) (a .t2) (a .t3))
-          (sym (c .before .room-sound .ensures) ∙ not-false _ (c .if1 .left)) (o .loop .inv .1),
+      all-more (o .loop .k) (fits (a .sizes .now) (a .t2) (a .stand) (a .t4) (a .t5))
+          (room (c .before) ∙ not-false _ (c .if1 .left)) (o .loop .inv .1),
     )
 
 returns-2 : tie.Need-returns-2 Inv-loop μ-loop
-unfolding roomsSound
+unfolding roomsFit
 returns-2 c =
     let o = c .before in
     let a = o .before .args in
-    let n : length (a .t3) ≡ maxClusters = search needs in
+    let n : length (a .t5) ≡ maxClusters = search needs in
     rw (
-      eq-eqb (length (a .t3)) maxClusters n,
-      all-done maxClusters (o .loop .k)
-          (fits (a .s) (a .stand) (a .t2) (a .t3))
+      eq-eqb (length (a .t5)) maxClusters n,
+      all-done maxClusters (o .loop .k) (fits (a .sizes .now) (a .t2) (a .stand) (a .t4) (a .t5))
           (omega arith) (omega arith) (o .loop .inv .1),
     )
 
@@ -98,10 +112,14 @@ rooms-sound-spec =
     Inv-loop
     μ-loop
     loop-holds
-    mul-line
-    array-copy-out-line
+    element-copy-out-wide
+    wide-requires
     mul-room-sound
     array-read-room-sound
+    mul-room-sound-2
+    array-copy-out-room-sound
+    mul-room-sound-3
+    array-read-room-sound-2
     room-sound-requires
     returns
     add-k

@@ -11,56 +11,63 @@ use lib.ListN.{length, getD, drop}
 use borrow.Author.Needs.{needs}
 use borrow.Author.Tests.{not-true, not-false}
 use Rattle.rules.specs.Limits.{maxClusters, maxSize}
+use Rattle.sets.specs.Sets.{member}
 use Rattle.places.specs.Places.{unpad, blank}
-use Rattle.gate.specs.Shown.{setupOf, blankLine}
+use Rattle.gate.specs.Shown.{blankLine}
 use Rattle.soundness.specs.Tests.{allBelow, joined}
-use Rattle.soundness.specs.Clauses.{lineSound}
-use Rattle.standing.specs.Answers.{linesIn, seenFrom}
+use Rattle.standing.specs.Answers.{linesIn, lineFits, seenFrom}
 use Rattle.standing.proofs.Shape.{lines-length, lines-each}
 use Rattle.standing.proofs.Turns.{all-none, all-more, all-done}
-use Rattle.standing.proofs.Queues.{Ended, ended-here, ended-past, lineRest, line-turn, line-bad, line-end}
-use Rattle.standing.proofs.Queues.{stands-below, stands-new, stands-twice}
-use Rattle.standing.proofs.LineTurns.{joined-turn, joined-end, line-start, line-fails, seen-fails, lines-pass}
+use Rattle.standing.proofs.Queues.{Ended, ended-here, ended-past, lineRest, line-start, line-turn, line-bad}
+use Rattle.standing.proofs.Queues.{line-end, stands-below, stands-new, stands-twice}
+use Rattle.standing.proofs.LineTurns.{joined-turn, joined-end, fits, line-fails, seen-fails, lines-pass}
 use Rattle.standing.proofs.lines_seen.Statement.{statement}
 use Rattle.standing.proofs.lines_seen.Tie as tie
 
 abbrev Inv-places : tie.InvT-places
-Inv-places s lines seen₀ k q j₀ seen j =
-    (j ≤ maxSize) × (j ≤ setupOf s .size k) × (length q ≡ maxSize)
-    × (lineRest (setupOf s) k j (drop j q) ≡ lineSound (setupOf s) k q)
+Inv-places sizes own lines seen₀ k m known q j₀ seen j =
+    (j ≤ maxSize) × (j ≤ m) × (length q ≡ maxSize)
+    × (lineRest m (member known) j (drop j q) ≡ fits sizes own lines k)
     × (seenFrom seen (unpad (drop j q) ++ joined (linesIn lines) (k + 1) (maxClusters - (k + 1)))
     ≡ seenFrom 0 (joined (linesIn lines) 0 maxClusters))
 
 abbrev μ-places : tie.MeasureT-places
-μ-places s lines seen₀ k q j₀ seen j = maxSize - j
+μ-places sizes own lines seen₀ k m known q j₀ seen j = maxSize - j
 
 abbrev Inv-lines : tie.InvT-lines
-Inv-lines s lines seen₀ k₀ seen k =
-    (k ≤ maxClusters) × (length lines ≡ maxClusters)
-    × (allBelow k (λ (i : ℕ). lineSound (setupOf s) i (getD lines i blankLine .places)) ≡ true)
+Inv-lines sizes own lines seen₀ k₀ seen k =
+    (k ≤ maxClusters) × (length lines ≡ maxClusters) × (allBelow k (fits sizes own lines) ≡ true)
     × (seenFrom seen (joined (linesIn lines) k (maxClusters - k)) ≡ seenFrom 0 (joined (linesIn lines) 0 maxClusters))
 
 abbrev μ-lines : tie.MeasureT-lines
-μ-lines s lines seen₀ k₀ seen k = maxClusters - k
+μ-lines sizes own lines seen₀ k₀ seen k = maxClusters - k
 
 lines-holds : tie.Need-lines-holds Inv-places μ-places Inv-lines μ-lines
 lines-holds c =
-    let a = c .args in (
-      omega arith,
-      lines-length (a .t2) 8 _ (c .good .1 .0),
-      all-none (λ (i : ℕ). lineSound (setupOf (a .s)) i (getD (a .t2) i blankLine .places)),
-      refl,
-    )
+    let a = c .args in
+    (omega arith, lines-length (a .t3) 8 _ (c .good .1 .1 .0), all-none (fits (a .sizes .now) (a .t2) (a .t3)), refl)
 
 returns : tie.Need-returns Inv-places μ-places Inv-lines μ-lines
 unfolding seenFrom
 returns c =
     let o = c .before .lines in
     let a = c .before .before .args in
-    let all = all-done maxClusters (o .k) (λ (i : ℕ). lineSound (setupOf (a .s)) i (getD (a .t2) i blankLine .places))
-    (omega arith) (omega arith) (o .inv .2) in
-    sym (lines-pass (setupOf (a .s)) (a .t2) (o .seen) (o .inv .1) all
-    (sym (o .inv .3) ∙ rw (joined-end (linesIn (a .t2)) (o .k) maxClusters (omega arith))))
+    let all = all-done maxClusters (o .k) (fits (a .sizes .now) (a .t2) (a .t3)) (omega arith) (omega arith)
+    (o .inv .2) in
+    sym (lines-pass (a .sizes .now) (a .t2) (a .t3) (o .seen) (o .inv .1) all
+    (sym (o .inv .3) ∙ rw (joined-end (linesIn (a .t3)) (o .k) maxClusters (omega arith))))
+
+element-copy-out-wide : tie.Need-element-copy-out-wide Inv-places μ-places Inv-lines μ-lines
+element-copy-out-wide c = search needs
+
+wide-requires : tie.Need-wide-requires Inv-places μ-places Inv-lines μ-lines
+wide-requires c κs = search needs
+
+mul-known : tie.Need-mul-known Inv-places μ-places Inv-lines μ-lines
+mul-known c = search needs
+
+array-read-known : tie.Need-array-read-known Inv-places μ-places Inv-lines μ-lines
+array-read-known c = search needs
 
 mul-line : tie.Need-mul-line Inv-places μ-places Inv-lines μ-lines
 mul-line c = search needs
@@ -70,16 +77,19 @@ array-copy-out-line c = search needs
 
 places-holds : tie.Need-places-holds Inv-places μ-places Inv-lines μ-lines
 places-holds c =
-    let p = c .before .before .before in
+    let w = c .before .before in
+    let p = w .before .before .before in
     let o = p .lines in
     let a = p .before .args in
-    let b : o .k < length (a .t2) = omega (arith, o .inv .1) in
-    let n = lines-each (a .t2) 8 _ (p .before .good .1 .0) (o .k) blankLine b in (
+    let b : o .k < length (a .t3) = omega (arith, o .inv .1) in
+    let q = getD (a .t3) (o .k) blankLine .places in
+    let known = member (getD (a .t2) (o .k) 0) in
+    let n = lines-each (a .t3) 8 _ (p .before .good .1 .1 .0) (o .k) blankLine b in (
       omega arith,
       omega arith,
       n,
-      line-start (setupOf (a .s)) (o .k) (getD (a .t2) (o .k) blankLine .places) n,
-      ap (seenFrom (o .seen)) (sym (joined-turn (linesIn (a .t2)) (o .k) maxClusters (omega arith))) ∙ o .inv .3,
+      line-start (w .wide .result) known q n ∙ ap (λ (m : ℕ). lineFits m known q) (w .wide .ensures),
+      ap (seenFrom (o .seen)) (sym (joined-turn (linesIn (a .t3)) (o .k) maxClusters (omega arith))) ∙ o .inv .3,
     )
 
 array-read-if2 : tie.Need-array-read-if2 Inv-places μ-places Inv-lines μ-lines
@@ -88,8 +98,8 @@ array-read-if2 c = search needs
 array-read-wide : tie.Need-array-read-wide Inv-places μ-places Inv-lines μ-lines
 array-read-wide c = search needs
 
-wide-requires : tie.Need-wide-requires Inv-places μ-places Inv-lines μ-lines
-wide-requires c κs = search needs
+wide-requires-2 : tie.Need-wide-requires-2 Inv-places μ-places Inv-lines μ-lines
+wide-requires-2 c κs = search needs
 
 may-stand-requires : tie.Need-may-stand-requires Inv-places μ-places Inv-lines μ-lines
 may-stand-requires c κs = search needs
@@ -108,49 +118,54 @@ places-less c = search needs
 
 places-again : tie.Need-places-again Inv-places μ-places Inv-lines μ-lines
 places-again c =
-    let m = c .before .before in
-    let w = m .before .before .before in
+    let d = c .before .before in
+    let w = d .before .before .before in
     let o = w .before .before .before in
-    let p = o .before .before .before .before in
+    let r = o .before .before .before in
+    let p = r .before .before .before in
     let a = p .before .args in
-    let q = getD (a .t2) (p .lines .k) blankLine .places in
+    let q = getD (a .t3) (p .lines .k) blankLine .places in
+    let m = r .wide .result in
+    let known = member (getD (a .t2) (p .lines .k) 0) in
     let i = o .places in
     let b : i .j < length q = omega (arith, i .inv .2) in
-    let stand = sym (m .before .before .may-stand .ensures) ∙ not-false _ (m .before .if3 .left) in (
+    let stand = sym (d .before .before .may-stand .ensures) ∙ not-false _ (d .before .if3 .left) in (
       omega arith,
-      omega (arith, stands-below (i .j) (setupOf (a .s) .size (p .lines .k)) _ stand),
+      omega (arith, stands-below (i .j) m _ stand),
       i .inv .2,
-      sym (line-turn (setupOf (a .s)) (p .lines .k) q (i .j) (w .wide .result) b (w .wide .ensures)
-          (w .before .if2 .left) stand)
+      sym (line-turn m known q (i .j) (w .wide2 .result) b (w .wide2 .ensures) (w .before .if2 .left) stand)
           ∙ i .inv .3,
       rw (c .with .ensures)
-          (sym (stands-new (setupOf (a .s)) (p .lines .k) q (i .j) (w .wide .result) b (w .wide .ensures)
-          (w .before .if2 .left) (i .seen) _ (sym (m .member .ensures) ∙ c .before .if4 .left))
+          (sym (stands-new m known q (i .j) (w .wide2 .result) b (w .wide2 .ensures)
+          (w .before .if2 .left) (i .seen) _ (sym (d .member .ensures) ∙ c .before .if4 .left))
           ∙ i .inv .4),
     )
 
 -- what is left of a line where its loop is left, by either way: nobody
 abbrev left : tie.Left-places Inv-places μ-places Inv-lines μ-lines → List ℕ
 left c =
-    let p = c .before .before .before .before .before in
-    drop (c .before .places .j) (getD (p .before .args .t2) (p .lines .k) blankLine .places)
+    let p = c .before .before .before .before .before .before .before in
+    drop (c .before .places .j) (getD (p .before .args .t3) (p .lines .k) blankLine .places)
 
 line-ended : (c : tie.Left-places Inv-places μ-places Inv-lines μ-lines) → Ended (left c)
 line-ended c =
     let i = c .before .places in
-    let p = c .before .before .before .before .before in
-    let q = getD (p .before .args .t2) (p .lines .k) blankLine .places in
+    let p = c .before .before .before .before .before .before .before in
+    let q = getD (p .before .args .t3) (p .lines .k) blankLine .places in
     ⊎-elim (λ w. ended-past q (i .j) (omega (arith, i .inv .2)))
     (λ w. ended-here q (i .j) (omega (arith, i .inv .2)) (w .1 .taken)) (c .places-test .came)
 
+-- the line is sound if nothing is left there but unused places
 line-rest : (c : tie.Left-places Inv-places μ-places Inv-lines μ-lines)
-    → lineRest (setupOf (c .before .before .before .before .before .before .args .s))
-    (c .before .before .before .before .before .lines .k) (c .before .places .j) (left c)
-    ≡ blank (left c)
+    → let p = c .before .before .before .before .before .before .before in
+    fits (p .before .args .sizes .now) (p .before .args .t2) (p .before .args .t3) (p .lines .k) ≡ blank (left c)
 line-rest c =
     let i = c .before .places in
-    let p = c .before .before .before .before .before in
-    line-end (setupOf (p .before .args .s)) (p .lines .k) (left c) (i .j) (i .inv .1) (line-ended c)
+    let r = c .before .before .before .before in
+    let p = r .before .before .before in
+    sym (i .inv .3)
+    ∙ line-end (r .wide .result) (member (getD (p .before .args .t2) (p .lines .k) 0)) (left c) (i .j) (i .inv .1)
+    (line-ended c)
 
 slice-aggregate-blank-from :
     tie.Need-slice-aggregate-blank-from Inv-places μ-places Inv-lines μ-lines
@@ -168,52 +183,50 @@ lines-less c = search needs
 lines-again : tie.Need-lines-again Inv-places μ-places Inv-lines μ-lines
 lines-again c =
     let e = c .before .before .before in
-    let i = e .before .places in
-    let p = e .before .before .before .before .before in
+    let p = e .before .before .before .before .before .before .before in
     let a = p .before .args in
-    let k = p .lines .k in
     let good = sym (c .before .blank-from .ensures) ∙ not-false _ (c .if5 .left) in (
       omega arith,
       p .lines .inv .1,
-      all-more k (λ (j : ℕ). lineSound (setupOf (a .s)) j (getD (a .t2) j blankLine .places))
-          (sym (i .inv .3) ∙ line-rest e ∙ good) (p .lines .inv .2),
-      rw (line-ended e .nobody) at (i .inv .4),
+      all-more (p .lines .k) (fits (a .sizes .now) (a .t2) (a .t3)) (line-rest e ∙ good) (p .lines .inv .2),
+      rw (line-ended e .nobody) at (e .before .places .inv .4),
     )
 
 returns-2 : tie.Need-returns-2 Inv-places μ-places Inv-lines μ-lines
 returns-2 c =
     let w = c .before .before in
     let o = w .before .before .before in
-    let p = o .before .before .before .before in
+    let r = o .before .before .before in
+    let p = r .before .before .before in
     let a = p .before .args in
-    let q = getD (a .t2) (p .lines .k) blankLine .places in
     let i = o .places in
-    let bad = line-bad (setupOf (a .s)) (p .lines .k) q (i .j) (w .wide .result) (omega (arith, i .inv .2))
-    (w .wide .ensures) (w .before .if2 .left) (sym (c .before .may-stand .ensures) ∙ not-true _ (c .if3 .taken)) in
-    sym (line-fails (setupOf (a .s)) (a .t2) (p .lines .k) (omega arith) (sym (i .inv .3) ∙ bad))
+    let bad = line-bad (r .wide .result) (member (getD (a .t2) (p .lines .k) 0))
+    (getD (a .t3) (p .lines .k) blankLine .places) (i .j) (w .wide2 .result) (omega (arith, i .inv .2))
+    (w .wide2 .ensures) (w .before .if2 .left) (sym (c .before .may-stand .ensures) ∙ not-true _ (c .if3 .taken)) in
+    sym (line-fails (a .sizes .now) (a .t2) (a .t3) (p .lines .k) (omega arith) (sym (i .inv .3) ∙ bad))
 
 returns-3 : tie.Need-returns-3 Inv-places μ-places Inv-lines μ-lines
 returns-3 c =
     let w = c .before .before .before .before in
     let o = w .before .before .before in
-    let p = o .before .before .before .before in
+    let r = o .before .before .before in
+    let p = r .before .before .before in
     let a = p .before .args in
-    let q = getD (a .t2) (p .lines .k) blankLine .places in
     let i = o .places in
-    let twice = stands-twice (setupOf (a .s)) (p .lines .k) q (i .j) (w .wide .result) (omega (arith, i .inv .2))
-    (w .wide .ensures) (w .before .if2 .left) (i .seen)
-    (joined (linesIn (a .t2)) (p .lines .k + 1) (maxClusters - (p .lines .k + 1)))
+    let twice = stands-twice (r .wide .result) (member (getD (a .t2) (p .lines .k) 0))
+    (getD (a .t3) (p .lines .k) blankLine .places) (i .j) (w .wide2 .result) (omega (arith, i .inv .2))
+    (w .wide2 .ensures) (w .before .if2 .left) (i .seen)
+    (joined (linesIn (a .t3)) (p .lines .k + 1) (maxClusters - (p .lines .k + 1)))
     (sym (c .before .member .ensures) ∙ c .if4 .taken) in
-    sym (seen-fails (setupOf (a .s)) (a .t2) (sym (i .inv .4) ∙ twice))
+    sym (seen-fails (a .sizes .now) (a .t2) (a .t3) (sym (i .inv .4) ∙ twice))
 
 returns-4 : tie.Need-returns-4 Inv-places μ-places Inv-lines μ-lines
 returns-4 c =
     let e = c .before .before .before in
-    let i = e .before .places in
-    let p = e .before .before .before .before .before in
+    let p = e .before .before .before .before .before .before .before in
     let a = p .before .args in
     let bad = sym (c .before .blank-from .ensures) ∙ not-true _ (c .if5 .taken) in
-    sym (line-fails (setupOf (a .s)) (a .t2) (p .lines .k) (omega arith) (sym (i .inv .3) ∙ line-rest e ∙ bad))
+    sym (line-fails (a .sizes .now) (a .t2) (a .t3) (p .lines .k) (omega arith) (line-rest e ∙ bad))
 
 pub lines-seen-spec : {M : Type 1} → statement M
 lines-seen-spec =
@@ -225,12 +238,16 @@ lines-seen-spec =
     μ-lines
     lines-holds
     returns
+    element-copy-out-wide
+    wide-requires
+    mul-known
+    array-read-known
     mul-line
     array-copy-out-line
     places-holds
     array-read-if2
     array-read-wide
-    wide-requires
+    wide-requires-2
     may-stand-requires
     member-requires
     with-requires

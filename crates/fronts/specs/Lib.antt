@@ -1,2 +1,0 @@
--- What the functions of this crate answer. Nothing is proved here. Assumes nothing.
-pub mod Answers
