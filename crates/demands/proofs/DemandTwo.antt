@@ -15,7 +15,7 @@ use Rattle.soundness.specs.Clauses.{soundOf}
 use Rattle.soundness.specs.Form.{ShowsSound}
 use Rattle.soundness.proofs.Exact.{sound-exact}
 use Rattle.events.specs.declared.Answer.{Answer}
-use Rattle.events.specs.declared.Answered.{Answered}
+use Rattle.step.specs.declared.Answered.{Answered}
 use Rattle.events.proofs.Only.{one-answer}
 use Rattle.step.specs.Stepped.{Told, toldIn, stepped}
 use Rattle.demands.proofs.Steps.{step-shown}

@@ -4,13 +4,13 @@ mod bytes;
 mod layout;
 
 use bytes::byte_of;
-use events::Answered;
 use gate::Gate;
 use layout::GATE;
 use layout::gate_in;
 use libc::STDIN_FILENO;
 use log::byte_at;
 use log::word_at;
+use step::Answered;
 use streams::Whole;
 use text::LF;
 use text::SPACE;

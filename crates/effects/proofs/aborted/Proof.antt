@@ -37,7 +37,7 @@ element-write-n : tie.Need-element-write-n
 element-write-n c = search needs
 
 returns : tie.Need-returns
-returns c = 
+returns c =
     λ v s fine e h.
     let home = rw (e .0) at (c .before .before .before .before .before .home .ensures) in
     rw (c .without .ensures, c .before .before .before .before .index .ensures)
@@ -54,7 +54,7 @@ gone-requires : tie.Need-gone-requires
 gone-requires c κs = search needs
 
 returns-2 : tie.Need-returns-2
-returns-2 c = 
+returns-2 c =
     let a = c .before .before .before .before .before .before .before .before .before .before in
     let d = a .args .c .0 in
     λ v s fine e h.
@@ -81,7 +81,7 @@ front-aborted-requires : tie.Need-front-aborted-requires
 front-aborted-requires c κs = search needs
 
 returns-3 : tie.Need-returns-3
-returns-3 c = 
+returns-3 c =
     let d = c .before .before .before .before .before .before .before .before .before .before .before .before .before .args .c .0 in
     λ v s fine e h.
     let home = rw (e .0) at (c .before .before .before .before .before .before .before .before .before .before .before .before .home .ensures) in
@@ -95,7 +95,7 @@ gone-requires-2 : tie.Need-gone-requires-2
 gone-requires-2 c κs = search needs
 
 returns-4 : tie.Need-returns-4
-returns-4 c = 
+returns-4 c =
     let d = c .before .before .before .before .before .before .before .before .before .before .before .before .before .args .c .0 in
     λ v s fine e h.
     let home = rw (e .0) at (c .before .before .before .before .before .before .before .before .before .before .before .before .home .ensures) in

@@ -39,7 +39,7 @@ queued-requires : tie.Need-queued-requires
 queued-requires c κs = search needs
 
 returns : tie.Need-returns
-returns c = 
+returns c =
     let d = c .before .before .before .before .before .before .before .before .before .args .c .0 in
     λ v s fine e h.
     let home = rw (e .0) at (c .before .before .before .before .before .before .before .before .home .ensures) in
@@ -51,7 +51,7 @@ returns c =
     (rw (c .before .before .longer .ensures, c .before .before .before .byte .ensures) (shows-joined fine h home _ size used (c .before .before .before .before .if1 .taken))))
 
 returns-2 : tie.Need-returns-2
-returns-2 c = 
+returns-2 c =
     λ v s fine e h.
     let home = rw (e .0) at (c .before .before .before .before .before .before .before .home .ensures) in
     let size = rw (e .1) at (c .before .before .before .before .size .ensures) in
@@ -79,7 +79,7 @@ element-write-n : tie.Need-element-write-n
 element-write-n c = search needs
 
 returns-3 : tie.Need-returns-3
-returns-3 c = 
+returns-3 c =
     λ v s fine e h.
     rw (c .with .ensures, c .before .index .ensures)
     (arrive-room fine h (rw (e .0) at (c .before .before .before .before .before .before .before .home .ensures)) _ (rw (e .1) at (c .before .before .before .before .size .ensures)) (c .before .before .before .before .before .used .ensures) _

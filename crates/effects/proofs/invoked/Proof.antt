@@ -21,7 +21,7 @@ picked-requires c κs = search needs
 
 returns : tie.Need-returns
 unfolding invoked
-returns c = 
+returns c =
     λ v s fine e h.
     let n = enters (setupOf v) (c .before .before .before .before .before .args .c .0) s in
     idle-picks n (s .server) (c .before .before .is-idle .ensures ∙ ap isIdle (h .service .server)) (c .before .if1 .taken)
@@ -29,7 +29,7 @@ returns c =
 
 returns-2 : tie.Need-returns-2
 unfolding invoked
-returns-2 c = 
+returns-2 c =
     λ v s fine e h.
     let n = enters (setupOf v) (c .before .before .before .before .args .c .0) s in
     busy-stays n (s .server) (c .before .is-idle .ensures ∙ ap isIdle (h .service .server)) (c .if1 .left)

@@ -19,7 +19,7 @@ index-requires : tie.Need-index-requires
 index-requires c κs = search needs
 
 returns : tie.Need-returns
-returns c = 
+returns c =
     let d = c .before .before .args .c .0 in
     λ cs v s e h.
     refuses h (abort d) NoClient (abort-unknown v s d (e .2 .clients) (c .before .index .ensures) (c .if1 .taken))
@@ -29,7 +29,7 @@ is-real-time-requires : tie.Need-is-real-time-requires
 is-real-time-requires c κs = search needs
 
 returns-2 : tie.Need-returns-2
-returns-2 c = 
+returns-2 c =
     let d = c .before .before .before .before .args .c .0 in
     λ cs v s e h.
     refuses h (abort d) BestEffort
@@ -62,7 +62,7 @@ waits-requires : tie.Need-waits-requires
 waits-requires c κs = search needs
 
 returns-3 : tie.Need-returns-3
-returns-3 c = 
+returns-3 c =
     let d = c .before .before .before .before .before .before .before .before .before .before .before .before .args .c .0 in
     λ cs v s e h.
     refuses h (abort d) NotWaiting
@@ -73,7 +73,7 @@ returns-3 c =
     (λ z. omega arith)
 
 returns-4 : tie.Need-returns-4
-returns-4 c = 
+returns-4 c =
     let d = c .before .before .before .before .before .before .before .before .before .before .before .before .before .args .c .0 in
     λ cs v s e h.
     refuses h (abort d) SpentAlready
@@ -88,7 +88,7 @@ aborted-requires c κs = search needs
 
 returns-5 : tie.Need-returns-5
 unfolding next
-returns-5 c = 
+returns-5 c =
     let d = c .before .before .before .before .before .before .before .before .before .before .before .before .before .before .args .c .0 in
     λ cs v s e h.
     accepts (abort d)

@@ -19,7 +19,7 @@ index-requires : tie.Need-index-requires
 index-requires c κs = search needs
 
 returns : tie.Need-returns
-returns c = 
+returns c =
     let d = c .before .before .args .c .0 in
     λ v s e h.
     refuses h (invoke d) NoClient (invoke-unknown v s d (e .3) (c .before .index .ensures) (c .if1 .taken)) (λ z. omega arith)
@@ -43,7 +43,7 @@ present-requires : tie.Need-present-requires
 present-requires c κs = search needs
 
 returns-2 : tie.Need-returns-2
-returns-2 c = 
+returns-2 c =
     let d = c .before .before .before .before .before .before .before .before .before .before .args .c .0 in
     λ v s e h.
     refuses h (invoke d) WaitsAlready
@@ -58,7 +58,7 @@ invoked-requires c κs = search needs
 
 returns-3 : tie.Need-returns-3
 unfolding next
-returns-3 c = 
+returns-3 c =
     let d = c .before .before .before .before .before .before .before .before .before .before .before .before .before .args .c .0 in
     λ v s e h.
     let fits = invoke-fine v s d (e .3) (c .before .before .before .before .before .before .before .before .before .before .before .before .index .ensures) (c .before .before .before .before .before .before .before .before .before .before .before .if1 .left)

@@ -21,7 +21,7 @@ served-requires : tie.Need-served-requires
 served-requires c κs = search needs
 
 returns : tie.Need-returns
-returns c = 
+returns c =
     λ v s fine e h.
     rw (c .served .ensures, c .before .client-in .ensures, c .before .before .before .close-up .ensures) (pick-front h (c .before .before .before .before .before .if1 .taken))
 
@@ -41,7 +41,7 @@ served-requires-2 : tie.Need-served-requires-2
 served-requires-2 c κs = search needs
 
 returns-2 : tie.Need-returns-2
-returns-2 c = 
+returns-2 c =
     λ v s fine e h.
     rw (c .served2 .ensures, c .before .client-in2 .ensures, c .before .before .before .close-up2 .ensures)
     (pick-best h (c .before .before .before .before .before .before .before .if1 .left) (c .before .before .before .before .before .if2 .taken))

@@ -10,7 +10,7 @@ is-blocked-requires : tie.Need-is-blocked-requires
 is-blocked-requires c κs = search needs
 
 returns : tie.Need-returns
-returns c = 
+returns c =
     λ v s fine e h.
     queue-blocked h (c .before .before .before .args .k .0) (blocked-is h _ (c .before .is-blocked .ensures v (e .0))) (c .if1 .taken)
 
@@ -24,7 +24,7 @@ front-requires : tie.Need-front-requires
 front-requires c κs = search needs
 
 returns-2 : tie.Need-returns-2
-returns-2 c = 
+returns-2 c =
     λ v s fine e h.
     queue-empty h (c .before .before .before .before .before .before .args .k .0) (blocked-is h _ (c .before .before .before .before .is-blocked .ensures v (e .0))) (c .before .before .before .if1 .left) (omega arith) _
     (c .before .front .ensures) (c .if2 .taken)
@@ -36,7 +36,7 @@ append-requires : tie.Need-append-requires
 append-requires c κs = search needs
 
 returns-3 : tie.Need-returns-3
-returns-3 c = 
+returns-3 c =
     λ v s fine e h.
     rw (c .before .append .ensures)
     (queue-joins h (c .before .before .before .before .before .before .before .before .before .before .args .k .0) (blocked-is h _ (c .before .before .before .before .before .before .before .before .is-blocked .ensures v (e .0))) (c .before .before .before .before .before .before .before .if1 .left) (omega arith) _

@@ -25,7 +25,7 @@ used-requires : tie.Need-used-requires
 used-requires c κs = search needs
 
 returns : tie.Need-returns
-returns c = 
+returns c =
     let k = c .before .before .before .before .before .args .k .0 in
     λ v s fine e h.
     refill-full fine h k (omega arith) _ (rw (e .sizes) at (c .before .before .size .ensures)) (c .before .used .ensures) (c .if1 .taken)
@@ -34,7 +34,7 @@ highest-in-requires : tie.Need-highest-in-requires
 highest-in-requires c κs = search needs
 
 returns-2 : tie.Need-returns-2
-returns-2 c = 
+returns-2 c =
     let k = c .before .before .before .before .before .before .before .args .k .0 in
     λ v s fine e h.
     refill-none fine h k (omega arith) _ (rw (e .sizes) at (c .before .before .before .before .size .ensures)) (c .before .before .before .used .ensures) (c .before .before .if1 .left) _
@@ -62,7 +62,7 @@ element-write-n : tie.Need-element-write-n
 element-write-n c = search needs
 
 returns-3 : tie.Need-returns-3
-returns-3 c = 
+returns-3 c =
     let k = c .before .before .before .before .before .before .before .before .before .before .args .k .0 in
     λ v s fine e h.
     rw (c .without .ensures, c .before .longer .ensures, c .before .before .narrow .ensures)

@@ -17,7 +17,7 @@ holds-requires : tie.Need-holds-requires
 holds-requires c κs = search needs
 
 returns-2 : tie.Need-returns-2
-returns-2 c = 
+returns-2 c =
     rw (← c .before .before .before .before .before .waits .ensures, c .before .before .before .before .if1 .left, ← c .before .before .byte .ensures, ← c .before .holds .ensures, c .if2 .taken)
 
 index-requires : tie.Need-index-requires
@@ -27,7 +27,7 @@ serves-requires : tie.Need-serves-requires
 serves-requires c κs = search needs
 
 returns-3 : tie.Need-returns-3
-returns-3 c = 
+returns-3 c =
     rw (← c .before .before .before .before .before .before .before .waits .ensures, c .before .before .before .before .before .before .if1 .left, ← c .before .before .before .before .byte .ensures, ← c .before .before .before .holds .ensures, c .before .before .if2 .left)
     (rw (c .before .index .ensures, ← c .before .before .before .before .byte .ensures) at (c .serves .ensures))
 

@@ -20,7 +20,7 @@ member-requires : tie.Need-member-requires
 member-requires c κs = search needs
 
 returns-2 : tie.Need-returns-2
-returns-2 c = 
+returns-2 c =
     rw (← c .before .before .before .before .byte .ensures, ← c .before .before .before .line-holds .ensures, c .before .before .if1 .left, c .before .before .before .before .byte .ensures, ← c .before .index .ensures)
     (c .member .ensures)
 

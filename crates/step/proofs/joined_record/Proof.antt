@@ -7,7 +7,7 @@ use Rattle.step.proofs.joined_record.Statement.{statement}
 use Rattle.step.proofs.joined_record.Tie as tie
 
 sound-record-requires : tie.Need-sound-record-requires
-sound-record-requires c κs = 
+sound-record-requires c κs =
     let a = c .before .before .before .before .before .before in
     let n : length (a .args .t1 .homes) ≡ 64 = search needs in
     (n, a .pre)

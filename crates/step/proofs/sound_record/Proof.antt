@@ -20,8 +20,8 @@ returns : tie.Need-returns
 returns c = rw (c .before .before .before .h .given .1) (c .sound-step .ensures)
 
 returns-2 : tie.Need-returns-2
-returns-2 c = 
-    rw (c .enum-told .given .1) 
+returns-2 c =
+    rw (c .enum-told .given .1)
     (unheard (c .before .before .pre .1) (record { answer = Unknown; queues = c .before .before .args .q }) refl refl)
 
 pub sound-record-spec : {M : Type 1} → statement M

@@ -13,7 +13,7 @@ enum-known-e : tie.Need-enum-known-e
 enum-known-e c = search needs
 
 invoke-requires : tie.Need-invoke-requires
-invoke-requires c κs = 
+invoke-requires c κs =
     let a = c .before .before .before .before .before .pre in
     (homes (a .1) (a .0), rw (c .before .before .before .before .wide .ensures) (fine (a .1) .clients))
 
@@ -24,7 +24,7 @@ wide-requires-2 : tie.Need-wide-requires-2
 wide-requires-2 c κs = search needs
 
 run-requires : tie.Need-run-requires
-run-requires c κs = 
+run-requires c κs =
     let a = c .before .before .before .before .before .before .pre in
     (rw (c .before .wide2 .ensures) (few-clusters (a .1)), rw (c .before .before .before .before .before .wide .ensures) (fine (a .1) .clients))
 
@@ -32,7 +32,7 @@ enum-told : tie.Need-enum-told
 enum-told c = search needs
 
 reply-requires : tie.Need-reply-requires
-reply-requires c κs = 
+reply-requires c κs =
     let a = c .before .before .before .pre in
     (server (a .1), homes (a .1) (a .0), rw (c .before .before .wide .ensures) (fine (a .1) .clients))
 
@@ -40,32 +40,32 @@ enum-known-e-3 : tie.Need-enum-known-e-3
 enum-known-e-3 c = search needs
 
 abort-requires : tie.Need-abort-requires
-abort-requires c κs = 
+abort-requires c κs =
     let a = c .before .before .before .before .pre in
     (homes (a .1) (a .0), rw (c .before .before .before .wide .ensures) (fine (a .1) .clients))
 
 returns : tie.Need-returns
-returns c = 
+returns c =
     let a = c .before .before .before .before .before .before .pre .1 in
     rw (c .before .before .before .e .given .1)
     (answered a (c .invoke .result) _ _ (c .invoke .ensures _ _ (refl, refl, refl, c .before .before .before .before .before .wide .ensures) (holds a)))
 
 returns-2 : tie.Need-returns-2
-returns-2 c = 
+returns-2 c =
     let a = c .before .before .before .before .before .before .before .pre .1 in
     rw (c .before .before .before .before .e2 .given .1)
     (answered a (c .run .result) _ _ (c .run .ensures _ _
     (record { sizes = refl; priorities = refl; clients = c .before .before .before .before .before .before .wide .ensures }, c .before .before .wide2 .ensures, refl) (holds a)))
 
 returns-3 : tie.Need-returns-3
-returns-3 c = 
+returns-3 c =
     let a = c .before .before .before .before .pre .1 in
     rw (c .before .enum-told .given .1)
     (answered a (c .reply .result) _ _ (c .reply .ensures _ _ _
     (refl, record { sizes = refl; priorities = refl; clients = c .before .before .before .wide .ensures }) (holds a)))
 
 returns-4 : tie.Need-returns-4
-returns-4 c = 
+returns-4 c =
     let a = c .before .before .before .before .before .pre .1 in
     rw (c .before .before .e3 .given .1)
     (answered a (c .abort .result) _ _ (c .abort .ensures _ _ _

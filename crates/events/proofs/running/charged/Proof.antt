@@ -16,7 +16,7 @@ overcharges-requires : tie.Need-overcharges-requires
 overcharges-requires c κs = search needs
 
 returns : tie.Need-returns
-returns c = 
+returns c =
     let n = c .before .before .before .before .before .before .before .args .n in
     λ v s e h.
     let told = c .before .before .before .charged .ensures v s (e .0 .sizes) (e .0 .priorities) (e .1) (e .0 .clients) (h .queues .lines)
@@ -35,7 +35,7 @@ served-requires c κs = search needs
 
 returns-2 : tie.Need-returns-2
 unfolding ran
-returns-2 c = 
+returns-2 c =
     let n = c .before .before .before .before .before .before .before .before .before .before .before .before .args .n in
     λ v s e h.
     let told = c .before .before .before .before .before .before .before .before .charged .ensures v s (e .0 .sizes) (e .0 .priorities) (e .1) (e .0 .clients) (h .queues .lines)

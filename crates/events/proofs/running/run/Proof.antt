@@ -15,7 +15,7 @@ use Rattle.events.proofs.running.run.Statement.{statement}
 use Rattle.events.proofs.running.run.Tie as tie
 
 returns : tie.Need-returns
-returns c = 
+returns c =
     let n = c .before .args .n in
     λ v s e h. refuses h (run n) RunOfNone (run-none v s n (c .if1 .taken)) (λ z. omega arith)
 
@@ -23,7 +23,7 @@ is-idle-requires : tie.Need-is-idle-requires
 is-idle-requires c κs = search needs
 
 returns-2 : tie.Need-returns-2
-returns-2 c = 
+returns-2 c =
     let n = c .before .before .before .before .args .n in
     λ v s e h.
     refuses h (run n) ServerIdle (run-idle v s (c .before .is-idle .ensures ∙ ap isIdle (h .queues .service .server)) n (c .before .before .before .if1 .left) (c .if2 .taken)) (λ z. omega arith)
@@ -32,7 +32,7 @@ passes-cap-requires : tie.Need-passes-cap-requires
 passes-cap-requires c κs = search needs
 
 returns-3 : tie.Need-returns-3
-returns-3 c = 
+returns-3 c =
     let n = c .before .before .before .before .before .before .args .n in
     λ v s e h.
     refuses h (run n) RunPastCap
@@ -41,14 +41,14 @@ returns-3 c =
     (λ z. omega arith)
 
 charged-requires : tie.Need-charged-requires
-charged-requires c κs = 
+charged-requires c κs =
     let a = c .before .before .before .before .before .before .before in
     let fits = ltb-false (a .args .cap) _ (sym (c .before .before .passes-cap .ensures) ∙ c .before .if3 .left) in
     let low : a .args .cap < 65536 = search needs in
     (a .pre .0, a .pre .1, omega arith)
 
 returns-4 : tie.Need-returns-4
-returns-4 c = 
+returns-4 c =
     let n = c .before .before .before .before .before .before .before .before .args .n in
     λ v s e h.
     run-charges v s (c .before .before .before .before .before .is-idle .ensures ∙ ap isIdle (h .queues .service .server)) n (c .before .before .before .before .before .before .before .if1 .left) (c .before .before .before .before .if2 .left)
