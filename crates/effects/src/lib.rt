@@ -60,7 +60,13 @@ fn behind(q: Queues, c: Client) -> Queues
 }
 
 // The one or the other by its kind.
-fn entered<'a>(q: Queues, kinds: &'a [u8; 64], homes: &'a [u8; 64], sizes: &'a [u8; 8], c: Client) -> Queues
+fn entered<'a>(
+    q: Queues,
+    kinds: &'a [u8; 64],
+    homes: &'a [u8; 64],
+    sizes: &'a [u8; 8],
+    c: Client,
+) -> Queues
     requires { ⌜ (c .0 < maxClients) × Homes (now homes) ⌝ }
     ensures { λ r.
         ⌜ Leaves (λ v s. (now (kinds .entry) ≡ v .kinds) × (now (homes .entry) ≡ v .homes)
@@ -73,7 +79,13 @@ fn entered<'a>(q: Queues, kinds: &'a [u8; 64], homes: &'a [u8; 64], sizes: &'a [
 }
 
 // Invoke c. Last, if the server is idle, pick.
-pub fn invoked<'a>(q: Queues, kinds: &'a [u8; 64], homes: &'a [u8; 64], sizes: &'a [u8; 8], c: Client) -> Queues
+pub fn invoked<'a>(
+    q: Queues,
+    kinds: &'a [u8; 64],
+    homes: &'a [u8; 64],
+    sizes: &'a [u8; 8],
+    c: Client,
+) -> Queues
     requires { ⌜ (c .0 < maxClients) × Homes (now homes) ⌝ }
     ensures { λ r.
         ⌜ Leaves (λ v s. (now (kinds .entry) ≡ v .kinds) × (now (homes .entry) ≡ v .homes)
@@ -101,7 +113,8 @@ fn gone<'a>(
 ) -> Queues
     requires { ⌜ (c .0 < maxClients) × Homes (now homes) × (clients ≤ maxClients) ⌝ }
     ensures { λ r.
-        ⌜ Leaves (λ v s. (now (homes .entry) ≡ v .homes) × Lent v (now (sizes .entry)) (now (priorities .entry)) clients)
+        ⌜ Leaves (λ v s. (now (homes .entry) ≡ v .homes)
+        × Lent v (now (sizes .entry)) (now (priorities .entry)) clients)
         (λ u s. rules.gone u (outranks u s) (c .0) s) q r ⌝ }
 {
     let k = rows::home(homes, c);
@@ -138,7 +151,11 @@ fn front_ended<'a>(
         × (length (s .global) < maxClusters)) (λ u s. rules.ended u (outranks u s) (front (c .0)) s) q r ⌝ }
 {
     let k = rows::home(homes, c);
-    moves::queued(gone(freed(q), homes, sizes, priorities, clients, c), homes, k)
+    moves::queued(
+        gone(freed(q), homes, sizes, priorities, clients, c),
+        homes,
+        k,
+    )
 }
 
 // The request of a spent client ends: its cluster stops being blocked, and the front there joins the global queue.
@@ -225,7 +242,11 @@ fn front_aborted<'a>(
         (λ u s. queue u (u .cluster (c .0)) (rules.gone u (outranks u s) (c .0) (rules.unqueue (c .0) s))) q r ⌝ }
 {
     let k = rows::home(homes, c);
-    moves::queued(gone(unqueued(q, c), homes, sizes, priorities, clients, c), homes, k)
+    moves::queued(
+        gone(unqueued(q, c), homes, sizes, priorities, clients, c),
+        homes,
+        k,
+    )
 }
 
 // Abort c. In the waiting room: leaves. Front in service: leaves the line, and stays in service as spent. Front and

@@ -19,7 +19,13 @@ ghost use Rattle.gate.specs.Shows.{Lent, Leaves};
 
 // Refill of a cluster: if its line has room and its waiting room isn't empty, the highest in rank moves to the line's
 // end.
-pub fn refilled<'a>(q: Queues, sizes: &'a [u8; 8], priorities: &'a [u16; 64], clients: usize, k: Cluster) -> Queues
+pub fn refilled<'a>(
+    q: Queues,
+    sizes: &'a [u8; 8],
+    priorities: &'a [u16; 64],
+    clients: usize,
+    k: Cluster,
+) -> Queues
     requires { ⌜ (k .0 < maxClusters) × (clients ≤ maxClients) ⌝ }
     ensures { λ r.
         ⌜ Leaves (λ v s. Lent v (now (sizes .entry)) (now (priorities .entry)) clients)

@@ -7,7 +7,7 @@ use native.Mathlib.Omega.{arith}
 use lib.Dec.{eqb}
 use lib.ListN.{getD}
 use Rattle.rules.specs.Limits.{maxSize}
-use Rattle.rules.specs.Lists.{has, heads}
+use Rattle.rules.specs.Lists.{heads}
 use Rattle.rules.specs.Queues.{waits}
 use Rattle.rules.specs.State.{State, serves}
 use Rattle.rules.specs.Step.{present}
@@ -41,8 +41,8 @@ module _ {v : Setup} {s : State} {q : Queues} (h : ShowsQueues v s q) {c k : ℕ
     waits-is = ap₂ _||_ (has-is (own-line d) (home .known)) (room-has w)
 
     pub present-is :
-      presentIn (getD (q .lines) k d .places) (getD (q .rooms) k w) (q .background) (serverOf (q .service .server)) c
-          ≡ present (setupOf v) s c
+        presentIn (getD (q .lines) k d .places) (getD (q .rooms) k w) (q .background) (serverOf (q .service .server)) c
+        ≡ present (setupOf v) s c
     present-is =
         ap₂ _||_ waits-is
         (ap₂ _||_ (has-is (h .background) (home .known)) (ap (λ x. serves x c) (h .service .server)))

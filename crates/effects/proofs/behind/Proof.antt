@@ -15,7 +15,7 @@ append-requires : tie.Need-append-requires
 append-requires c κs = search needs
 
 returns : tie.Need-returns
-returns c = 
+returns c =
     let a = c .before .before .before .before .before in
     λ v s fine e h.
     rw (c .before .append .ensures, c .before .before .byte .ensures)

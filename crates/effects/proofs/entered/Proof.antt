@@ -11,7 +11,7 @@ arrived-requires : tie.Need-arrived-requires
 arrived-requires c κs = search needs
 
 returns : tie.Need-returns
-returns c = 
+returns c =
     λ v s fine e h.
     rw (← rw (e .0) at (c .before .before .is-real-time .ensures), c .before .if1 .taken)
     (c .arrived .ensures v s fine (e .1, e .2, e .3) h)
@@ -20,9 +20,10 @@ behind-requires : tie.Need-behind-requires
 behind-requires c κs = search needs
 
 returns-2 : tie.Need-returns-2
-returns-2 c = 
+returns-2 c =
     λ v s fine e h.
-    rw (← rw (e .0) at (c .before .before .is-real-time .ensures), c .before .if1 .left) (c .behind .ensures v s fine (e .3) h)
+    rw (← rw (e .0) at (c .before .before .is-real-time .ensures), c .before .if1 .left)
+    (c .behind .ensures v s fine (e .3) h)
 
 pub entered-spec : {M : Type 1} → statement M
 entered-spec =

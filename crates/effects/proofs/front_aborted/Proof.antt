@@ -21,7 +21,7 @@ queued-requires : tie.Need-queued-requires
 queued-requires c κs = search needs
 
 returns : tie.Need-returns
-returns c = 
+returns c =
     let a = c .before .before .before .before in
     let d = a .args .c .0 in
     λ v s fine e h.

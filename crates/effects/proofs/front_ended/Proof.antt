@@ -21,7 +21,7 @@ queued-requires : tie.Need-queued-requires
 queued-requires c κs = search needs
 
 returns : tie.Need-returns
-returns c = 
+returns c =
     let d = c .before .before .before .before .args .c .0 in
     λ v s fine e h.
     let t = gone (setupOf v) (outranks (setupOf v) s) d (freed s) in

@@ -31,7 +31,7 @@ refilled-requires : tie.Need-refilled-requires
 refilled-requires c κs = search needs
 
 returns : tie.Need-returns
-returns c = 
+returns c =
     let d = c .before .before .before .before .before .args .c .0 in
     λ v s fine e h.
     let home = rw (e .0) at (c .before .before .before .before .home .ensures) in

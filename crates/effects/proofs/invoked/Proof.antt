@@ -21,15 +21,16 @@ picked-requires c κs = search needs
 
 returns : tie.Need-returns
 unfolding invoked
-returns c = 
+returns c =
     λ v s fine e h.
     let n = enters (setupOf v) (c .before .before .before .before .before .args .c .0) s in
-    idle-picks n (s .server) (c .before .before .is-idle .ensures ∙ ap isIdle (h .service .server)) (c .before .if1 .taken)
+    idle-picks n (s .server) (c .before .before .is-idle .ensures ∙ ap isIdle (h .service .server))
+    (c .before .if1 .taken)
     (c .picked .ensures v n fine tt (c .before .before .before .entered .ensures v s fine e h))
 
 returns-2 : tie.Need-returns-2
 unfolding invoked
-returns-2 c = 
+returns-2 c =
     λ v s fine e h.
     let n = enters (setupOf v) (c .before .before .before .before .args .c .0) s in
     busy-stays n (s .server) (c .before .is-idle .ensures ∙ ap isIdle (h .service .server)) (c .if1 .left)

@@ -15,7 +15,7 @@ picked-requires c κs = search needs
 
 returns : tie.Need-returns
 unfolding replied
-returns c = 
+returns c =
     λ v s fine e h.
     c .picked .ensures v (ends (setupOf v) s) fine tt (c .before .ended .ensures v s fine e h)
 

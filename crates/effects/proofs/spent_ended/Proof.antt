@@ -16,7 +16,7 @@ queued-requires : tie.Need-queued-requires
 queued-requires c κs = search needs
 
 returns : tie.Need-returns
-returns c = 
+returns c =
     λ v s fine e h.
     shows-queue (rw (e .0) at (c .before .before .home .ensures)) (freed s)
     (c .queued .ensures v (freed s) fine e (rw (c .before .freed .ensures) (shows-freed h)))

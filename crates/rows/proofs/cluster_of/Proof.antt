@@ -1,6 +1,6 @@
 -- `rows::cluster_of` meets its contract.
 -- Assumes nothing.
-use mathlib.Core.Path.{_≡_, sym}
+use mathlib.Core.Path.{sym}
 use native.Mathlib.Omega.{arith}
 use lib.ListN.{List·getD-eq-default}
 use borrow.Author.Needs.{needs}
@@ -8,7 +8,7 @@ use Rattle.rows.proofs.cluster_of.Statement.{statement}
 use Rattle.rows.proofs.cluster_of.Tie as tie
 
 returns : tie.Need-returns
-returns c = 
+returns c =
     let a = c .before .args in
     let n = c .before .pre in
     sym (List·getD-eq-default (a .homes .now) 0 (omega (arith, n)))

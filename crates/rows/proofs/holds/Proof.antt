@@ -9,7 +9,7 @@ find-requires : tie.Need-find-requires
 find-requires c κs = search needs
 
 returns : tie.Need-returns
-returns c = 
+returns c =
     let a = c .before .before .args in
     rw (c .find .ensures) (place-has (a .x) (a .q .now))
 

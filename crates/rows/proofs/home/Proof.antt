@@ -11,7 +11,7 @@ cluster-of-requires : tie.Need-cluster-of-requires
 cluster-of-requires c κs = c .before .pre .1 .rows
 
 returns : tie.Need-returns
-returns c = 
+returns c =
     let a = c .before .before .pre in
     let e = rw (c .before .index .ensures) at (c .cluster-of .ensures) in
     record { known = a .0; own = e; low = rw e (a .1 .low _) }

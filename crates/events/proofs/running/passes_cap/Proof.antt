@@ -10,7 +10,7 @@ use Rattle.events.proofs.running.passes_cap.Statement.{statement}
 use Rattle.events.proofs.running.passes_cap.Tie as tie
 
 returns : tie.Need-returns
-returns c = 
+returns c =
     let a = c .before .args in
     sym (lt-ltb (a .cap) (a .units + a .n) (omega arith))
 
@@ -18,7 +18,7 @@ cast-result : tie.Need-cast-result
 cast-result c = search needs
 
 returns-2 : tie.Need-returns-2
-returns-2 c = 
+returns-2 c =
     let a = c .before .args in
     past-is (a .cap) (a .units) (a .n) (omega arith)
 

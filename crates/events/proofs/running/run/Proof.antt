@@ -15,7 +15,7 @@ use Rattle.events.proofs.running.run.Statement.{statement}
 use Rattle.events.proofs.running.run.Tie as tie
 
 returns : tie.Need-returns
-returns c = 
+returns c =
     let n = c .before .args .n in
     λ v s e h. refuses h (run n) RunOfNone (run-none v s n (c .if1 .taken)) (λ z. omega arith)
 
@@ -23,36 +23,41 @@ is-idle-requires : tie.Need-is-idle-requires
 is-idle-requires c κs = search needs
 
 returns-2 : tie.Need-returns-2
-returns-2 c = 
+returns-2 c =
     let n = c .before .before .before .before .args .n in
     λ v s e h.
-    refuses h (run n) ServerIdle (run-idle v s (c .before .is-idle .ensures ∙ ap isIdle (h .queues .service .server)) n (c .before .before .before .if1 .left) (c .if2 .taken)) (λ z. omega arith)
+    refuses h (run n) ServerIdle (run-idle v s (c .before .is-idle .ensures ∙ ap isIdle (h .queues .service .server)) n
+    (c .before .before .before .if1 .left) (c .if2 .taken)) (λ z. omega arith)
 
 passes-cap-requires : tie.Need-passes-cap-requires
 passes-cap-requires c κs = search needs
 
 returns-3 : tie.Need-returns-3
-returns-3 c = 
+returns-3 c =
     let n = c .before .before .before .before .before .before .args .n in
     λ v s e h.
     refuses h (run n) RunPastCap
-    (run-past v s (c .before .before .before .is-idle .ensures ∙ ap isIdle (h .queues .service .server)) n (c .before .before .before .before .before .if1 .left) (c .before .before .if2 .left)
+    (run-past v s (c .before .before .before .is-idle .ensures ∙ ap isIdle (h .queues .service .server)) n
+    (c .before .before .before .before .before .if1 .left) (c .before .before .if2 .left)
     (c .before .passes-cap .ensures ∙ ap₂ (λ l m. ltb l (m + n)) (e .2) (h .queues .service .units)) (c .if3 .taken))
     (λ z. omega arith)
 
 charged-requires : tie.Need-charged-requires
-charged-requires c κs = 
+charged-requires c κs =
     let a = c .before .before .before .before .before .before .before in
     let fits = ltb-false (a .args .cap) _ (sym (c .before .before .passes-cap .ensures) ∙ c .before .if3 .left) in
     let low : a .args .cap < 65536 = search needs in
     (a .pre .0, a .pre .1, omega arith)
 
 returns-4 : tie.Need-returns-4
-returns-4 c = 
-    let n = c .before .before .before .before .before .before .before .before .args .n in
+returns-4 c =
+    let b = c .before .before .before .before .before in
+    let n = b .before .before .before .args .n in
     λ v s e h.
-    run-charges v s (c .before .before .before .before .before .is-idle .ensures ∙ ap isIdle (h .queues .service .server)) n (c .before .before .before .before .before .before .before .if1 .left) (c .before .before .before .before .if2 .left)
-    (c .before .before .before .passes-cap .ensures ∙ ap₂ (λ l m. ltb l (m + n)) (e .2) (h .queues .service .units)) (c .before .before .if3 .left)
+    run-charges v s (b .is-idle .ensures ∙ ap isIdle (h .queues .service .server)) n (b .before .before .if1 .left)
+    (c .before .before .before .before .if2 .left)
+    (c .before .before .before .passes-cap .ensures ∙ ap₂ (λ l m. ltb l (m + n)) (e .2) (h .queues .service .units))
+    (c .before .before .if3 .left)
     (c .charged .ensures v s (e .0, e .1) h)
 
 pub run-spec : {M : Type 1} → statement M

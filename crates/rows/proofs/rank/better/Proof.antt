@@ -12,7 +12,7 @@ returns : tie.Need-returns
 returns c = (rw (← c .before .member .ensures, not-true (c .before .member .result) (c .if1 .taken)), search needs)
 
 returns-2 : tie.Need-returns-2
-returns-2 c = 
+returns-2 c =
     let m = c .before .before .member in
     (rw (← m .ensures, not-false (m .result) (c .before .if1 .left), eq-eqb _ 64 (c .if2 .taken)), search needs)
 
@@ -20,7 +20,7 @@ outranks-requires : tie.Need-outranks-requires
 outranks-requires c κs = search needs
 
 returns-3 : tie.Need-returns-3
-returns-3 c = 
+returns-3 c =
     let d = c .before .before in
     let m = d .before .before .member in (
       rw (
@@ -34,7 +34,7 @@ returns-3 c =
     )
 
 returns-4 : tie.Need-returns-4
-returns-4 c = 
+returns-4 c =
     let d = c .before .before in
     let m = d .before .before .member in (
       rw (

@@ -12,7 +12,7 @@ use Rattle.rows.proofs.rank.highest_in.Statement.{statement}
 use Rattle.rows.proofs.rank.highest_in.Tie as tie
 
 abbrev Inv-loop : tie.InvT-loop
-Inv-loop priorities room n b₀ c₀ b c = 
+Inv-loop priorities room n b₀ c₀ b c =
     (c ≤ n) × (n ≤ 64) × (b ≤ 64) × (b ≡ orNobody (highest (rankBy priorities) (member room) c))
 
 abbrev μ-loop : tie.MeasureT-loop
@@ -31,7 +31,7 @@ loop-less : tie.Need-loop-less Inv-loop μ-loop
 loop-less c = omega arith
 
 loop-again : tie.Need-loop-again Inv-loop μ-loop
-loop-again c = 
+loop-again c =
     let l = c .before .before .loop in
     let a = c .before .before .before .args in
     let ps = a .priorities .now in (
@@ -43,7 +43,7 @@ loop-again c =
     )
 
 returns : tie.Need-returns Inv-loop μ-loop
-returns c = 
+returns c =
     let l = c .before .loop in
     let e : l .c ≡ c .before .before .args .n = omega arith in
     (rw (← e) (l .inv .3), l .inv .2)

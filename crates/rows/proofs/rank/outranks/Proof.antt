@@ -14,19 +14,19 @@ key-requires-2 c κs = search needs
 
 returns : tie.Need-returns
 unfolding rankBy
-returns c = 
+returns c =
     let k = c .before in
     rw (← k .key2 .ensures, ← k .before .key .ensures, lt-ltb _ _ (c .if1 .taken))
 
 returns-2 : tie.Need-returns-2
 unfolding rankBy
-returns-2 c = 
+returns-2 c =
     let k = c .before .before in
     rw (← k .key2 .ensures, ← k .before .key .ensures, le-ltb _ _ (c .before .if1 .left), eq-eqb _ _ (c .if2 .taken))
 
 returns-3 : tie.Need-returns-3
 unfolding rankBy
-returns-3 c = 
+returns-3 c =
     let k = c .before .before in
     rw (← k .key2 .ensures, ← k .before .key .ensures, le-ltb _ _ (c .before .if1 .left), ne-eqb _ _ (c .if2 .left))
 

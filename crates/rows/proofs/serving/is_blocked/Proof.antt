@@ -11,7 +11,7 @@ as-spent-requires : tie.Need-as-spent-requires
 as-spent-requires c κs = search needs
 
 returns : tie.Need-returns
-returns c = 
+returns c =
     let a = c .before .before .args in
     λ v e. rw (
       blocks-is (setupOf v) (serverOf (a .s)) (a .k .0),
@@ -29,7 +29,7 @@ cluster-of-requires : tie.Need-cluster-of-requires
 cluster-of-requires c κs = search needs
 
 returns-2 : tie.Need-returns-2
-returns-2 c = 
+returns-2 c =
     let d = c .before .before .before .before .before in
     let a = d .before .before .args in
     λ v e. rw (

@@ -10,7 +10,7 @@ is-idle-requires : tie.Need-is-idle-requires
 is-idle-requires c κs = search needs
 
 returns : tie.Need-returns
-returns c = 
+returns c =
     let a = c .before .before .args in
     rw (serves-is (serverOf (a .s)) (a .c), ← c .before .is-idle .ensures, c .if1 .taken)
 
@@ -21,7 +21,7 @@ index-requires : tie.Need-index-requires
 index-requires c κs = search needs
 
 returns-2 : tie.Need-returns-2
-returns-2 c = 
+returns-2 c =
     let d = c .before .before in
     let a = d .before .before .args in
     rw (
