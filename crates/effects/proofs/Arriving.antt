@@ -1,4 +1,4 @@
--- Invoke, as the queues show it: in the line, in the room, or in the background queue; then pick, if the server is idle.
+-- Invoke, as the queues show it: in the line, in the room, or in the background queue; then pick, if the server idles.
 -- Assumes nothing.
 use Prim.Native.Nat.{_<_, _≤_, ℕ}
 use mathlib.Core.Bool.{Bool, false, true}

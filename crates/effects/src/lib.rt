@@ -113,7 +113,8 @@ fn gone<'a>(
 ) -> Queues
     requires { ⌜ (c .0 < maxClients) × Homes (now homes) × (clients ≤ maxClients) ⌝ }
     ensures { λ r.
-        ⌜ Leaves (λ v s. (now (homes .entry) ≡ v .homes) × Lent v (now (sizes .entry)) (now (priorities .entry)) clients)
+        ⌜ Leaves (λ v s. (now (homes .entry) ≡ v .homes)
+        × Lent v (now (sizes .entry)) (now (priorities .entry)) clients)
         (λ u s. rules.gone u (outranks u s) (c .0) s) q r ⌝ }
 {
     let k = rows::home(homes, c);

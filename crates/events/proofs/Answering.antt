@@ -6,7 +6,7 @@ use mathlib.Core.List.{List}
 use mathlib.Core.Path.{_∙_, _≡_, refl, sym}
 use native.Mathlib.Omega.{arith}
 use lib.Dec.{eqb}
-use lib.ListN.{getD, set}
+use lib.ListN.{set}
 use borrow.Author.Tests.{eq-eqb, eqb-false, eqb-true, ne-eqb}
 use Rattle.rules.specs.Events.{Event, abort, invoke, ran, reply}
 use Rattle.rules.specs.Limits.{maxClients}
@@ -71,7 +71,8 @@ module _ {v : Setup} {s : State} {q : Queues} {cs : List ℕ} (h : Holds v s q c
 
       away : (c : ℕ) → realTime (setupOf v) d ≡ false
           → cond (eqb d c && realTime (setupOf v) c) 0 (s .charge c + 0) ≡ s .charge c
-      away c r = by-test (eqb d c) (λ e. rw (← eqb-true d c e, eq-eqb d d refl, r) (omega arith)) (λ e. rw e (omega arith))
+      away c r =
+          by-test (eqb d c) (λ e. rw (← eqb-true d c e, eq-eqb d d refl, r) (omega arith)) (λ e. rw e (omega arith))
 
 -- an accepted event
 pub accepts : {v : Setup} {s : State} (e : Event) {r : Queues} {cs : List ℕ} → answer (setupOf v) s e ≡ accepted

@@ -95,7 +95,3 @@ pub record Within (s : State) : Type 0 where
 abbrev pub Leaves : (Setup → State → Type 0) → (rules-setup.Setup → State → State) → Queues → Queues → Type 0
 Leaves p f q r =
     (v : Setup) (s : State) → Fine v → p v s → ShowsQueues v s q → ShowsQueues v (f (setupOf v) s) r
-
--- Whatever state they show, x is what f says of it.
-abbrev pub Tells : {A : Type 0} → (Setup → State → Type 0) → (rules-setup.Setup → State → A) → Queues → A → Type 0
-Tells p f q x = (v : Setup) (s : State) → Fine v → p v s → ShowsQueues v s q → x ≡ f (setupOf v) s

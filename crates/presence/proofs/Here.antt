@@ -7,7 +7,7 @@ use native.Mathlib.Omega.{arith}
 use lib.Dec.{eqb}
 use lib.ListN.{getD}
 use Rattle.rules.specs.Limits.{maxSize}
-use Rattle.rules.specs.Lists.{has, heads}
+use Rattle.rules.specs.Lists.{heads}
 use Rattle.rules.specs.Queues.{waits}
 use Rattle.rules.specs.State.{State, serves}
 use Rattle.rules.specs.Step.{present}

@@ -41,7 +41,8 @@ returns c =
     λ v s fine e h.
     let home = rw (e .0) at (c .before .before .before .before .before .home .ensures) in
     rw (c .without .ensures, c .before .before .before .before .index .ensures)
-    (abort-room s (c .before .before .before .before .before .before .args .c .0) (rw (c .before .before .before .before .index .ensures) at (c .before .before .member .ensures) ∙ room-has h home _)
+    (abort-room s (c .before .before .before .before .before .before .args .c .0)
+    (rw (c .before .before .before .before .index .ensures) at (c .before .before .member .ensures) ∙ room-has h home _)
     (c .before .if1 .taken) (shows-left h home _))
 
 is-front-requires : tie.Need-is-front-requires
@@ -55,12 +56,15 @@ gone-requires c κs = search needs
 
 returns-2 : tie.Need-returns-2
 returns-2 c =
-    let a = c .before .before .before .before .before .before .before .before .before .before in
+    let b = c .before .before .before .before .before in
+    let a = b .before .before .before .before .before in
     let d = a .args .c .0 in
     λ v s fine e h.
-    let home = rw (e .0) at (c .before .before .before .before .before .before .before .before .before .home .ensures) in
-    abort-served s d (rw (c .before .before .before .before .before .before .before .before .index .ensures) at (c .before .before .before .before .before .before .member .ensures) ∙ room-has h home _) (c .before .before .before .before .before .if1 .left)
-    (rw (c .before .before .before .before .before .before .before .before .index .ensures) at (c .before .before .before .is-front .ensures) ∙ ap (λ x. isFront x d) (h .service .server)) (c .before .before .if2 .taken)
+    let home = rw (e .0) at (b .before .before .before .before .home .ensures) in
+    abort-served s d (rw (b .before .before .before .index .ensures) at (b .before .member .ensures)
+    ∙ room-has h home _) (b .if1 .left)
+    (rw (b .before .before .before .index .ensures) at (c .before .before .before .is-front .ensures)
+    ∙ ap (λ x. isFront x d) (h .service .server)) (c .before .before .if2 .taken)
     (by-rank d (spend d s) s (spend d s)
     (c .gone .ensures v (spend d s) fine (e .0, e .1)
     (rw (c .before .served .ensures) (shows-spend h d (a .pre .0) (a .args .c) refl))))
@@ -82,13 +86,17 @@ front-aborted-requires c κs = search needs
 
 returns-3 : tie.Need-returns-3
 returns-3 c =
-    let d = c .before .before .before .before .before .before .before .before .before .before .before .before .before .args .c .0 in
+    let b = c .before .before .before .before .before in
+    let a = b .before .before .before .before .before in
+    let d = a .before .before .before .args .c .0 in
     λ v s fine e h.
-    let home = rw (e .0) at (c .before .before .before .before .before .before .before .before .before .before .before .before .home .ensures) in
+    let home = rw (e .0) at (a .before .before .home .ensures) in
     let first = ap (λ x. eqb x d) (c .before .before .before .front .ensures) ∙ heads-at h home _ in
     let same = eq-eqb _ d (c .before .if3 .taken ∙ c .before .before .byte .ensures) in
-    abort-front s d (rw (c .before .before .before .before .before .before .before .before .before .before .before .index .ensures) at (c .before .before .before .before .before .before .before .before .before .member .ensures) ∙ room-has h home _) (c .before .before .before .before .before .before .before .before .if1 .left)
-    (rw (c .before .before .before .before .before .before .before .before .before .before .before .index .ensures) at (c .before .before .before .before .before .before .is-front .ensures) ∙ ap (λ x. isFront x d) (h .service .server)) (c .before .before .before .before .before .if2 .left)
+    abort-front s d (rw (a .before .index .ensures) at (b .before .before .before .before .member .ensures)
+    ∙ room-has h home _) (b .before .before .before .if1 .left)
+    (rw (a .before .index .ensures) at (b .before .is-front .ensures) ∙ ap (λ x. isFront x d) (h .service .server))
+    (b .if2 .left)
     first same (c .front-aborted .ensures v s fine (e .0, e .1, e .2 (sym first ∙ same)) h)
 
 gone-requires-2 : tie.Need-gone-requires-2
@@ -96,13 +104,17 @@ gone-requires-2 c κs = search needs
 
 returns-4 : tie.Need-returns-4
 returns-4 c =
-    let d = c .before .before .before .before .before .before .before .before .before .before .before .before .before .args .c .0 in
+    let b = c .before .before .before .before .before in
+    let a = b .before .before .before .before .before in
+    let d = a .before .before .before .args .c .0 in
     λ v s fine e h.
-    let home = rw (e .0) at (c .before .before .before .before .before .before .before .before .before .before .before .before .home .ensures) in
+    let home = rw (e .0) at (a .before .before .home .ensures) in
     let first = ap (λ x. eqb x d) (c .before .before .before .front .ensures) ∙ heads-at h home _ in
     let other = ne-eqb _ d (λ z. c .before .if3 .left (z ∙ sym (c .before .before .byte .ensures))) in
-    abort-line s d (rw (c .before .before .before .before .before .before .before .before .before .before .before .index .ensures) at (c .before .before .before .before .before .before .before .before .before .member .ensures) ∙ room-has h home _) (c .before .before .before .before .before .before .before .before .if1 .left)
-    (rw (c .before .before .before .before .before .before .before .before .before .before .before .index .ensures) at (c .before .before .before .before .before .before .is-front .ensures) ∙ ap (λ x. isFront x d) (h .service .server)) (c .before .before .before .before .before .if2 .left)
+    abort-line s d (rw (a .before .index .ensures) at (b .before .before .before .before .member .ensures)
+    ∙ room-has h home _) (b .before .before .before .if1 .left)
+    (rw (a .before .index .ensures) at (b .before .is-front .ensures) ∙ ap (λ x. isFront x d) (h .service .server))
+    (b .if2 .left)
     first other (c .gone2 .ensures v s fine (e .0, e .1) h)
 
 pub aborted-spec : {M : Type 1} → statement M

@@ -40,15 +40,17 @@ queued-requires c κs = search needs
 
 returns : tie.Need-returns
 returns c =
-    let d = c .before .before .before .before .before .before .before .before .before .args .c .0 in
+    let b = c .before .before .before .before .before in
+    let d = b .before .before .before .before .args .c .0 in
     λ v s fine e h.
-    let home = rw (e .0) at (c .before .before .before .before .before .before .before .before .home .ensures) in
-    let size = rw (e .1) at (c .before .before .before .before .before .size .ensures) in
-    let used = c .before .before .before .before .before .before .used .ensures in
+    let home = rw (e .0) at (b .before .before .before .home .ensures) in
+    let size = rw (e .1) at (b .size .ensures) in
+    let used = b .before .used .ensures in
     arrive-front fine h home _ size used (c .before .if2 .taken)
     (c .queued .ensures v (joined (setupOf v) d s) fine
     (e .0, e .2 .turn (sym (length-is fine h home _ size used) ∙ c .before .if2 .taken))
-    (rw (c .before .before .longer .ensures, c .before .before .before .byte .ensures) (shows-joined fine h home _ size used (c .before .before .before .before .if1 .taken))))
+    (rw (c .before .before .longer .ensures, c .before .before .before .byte .ensures)
+    (shows-joined fine h home _ size used (c .before .before .before .before .if1 .taken))))
 
 returns-2 : tie.Need-returns-2
 returns-2 c =
@@ -82,7 +84,9 @@ returns-3 : tie.Need-returns-3
 returns-3 c =
     λ v s fine e h.
     rw (c .with .ensures, c .before .index .ensures)
-    (arrive-room fine h (rw (e .0) at (c .before .before .before .before .before .before .before .home .ensures)) _ (rw (e .1) at (c .before .before .before .before .size .ensures)) (c .before .before .before .before .before .used .ensures) _
+    (arrive-room fine h (rw (e .0) at (c .before .before .before .before .before .before .before .home .ensures)) _
+    (rw (e .1) at (c .before .before .before .before .size .ensures))
+    (c .before .before .before .before .before .used .ensures) _
     (c .before .before .before .if1 .left) (e .2 .size))
 
 pub arrived-spec : {M : Type 1} → statement M

@@ -27,7 +27,8 @@ front-ended-requires c κs =
 returns : tie.Need-returns
 returns c =
     λ v s fine e h.
-    let w : s .server ≡ front (c .before .before .before .served .result .0) = served-front h (c .before .before .before .served .ensures)
+    let w : s .server ≡ front (c .before .before .before .served .result .0) = served-front h
+    (c .before .before .before .served .ensures)
     (sym (c .before .before .as-front .ensures) ∙ c .before .if1 .taken) in
     ended-by s _ w
     (c .front-ended .ensures v s fine (e .0, e .1, subst (λ x. Yields x (s .global)) w (e .2)) h)
@@ -38,14 +39,16 @@ as-spent-requires c κs = search needs
 spent-ended-requires : tie.Need-spent-ended-requires
 spent-ended-requires c κs =
     let a = c .before .before .before .before .before .before in (
-      rw (c .before .before .before .before .served .ensures) (served-fits (serverOf (a .args .q .service .server)) (a .pre .0)),
+      rw (c .before .before .before .before .served .ensures)
+          (served-fits (serverOf (a .args .q .service .server)) (a .pre .0)),
       a .pre .1,
     )
 
 returns-2 : tie.Need-returns-2
 returns-2 c =
     λ v s fine e h.
-    let w : s .server ≡ spent (c .before .before .before .before .before .served .result .0) = served-spent h (c .before .before .before .before .before .served .ensures)
+    let w : s .server ≡ spent (c .before .before .before .before .before .served .result .0) = served-spent h
+    (c .before .before .before .before .before .served .ensures)
     (sym (c .before .before .as-spent .ensures) ∙ c .before .if2 .taken) in
     ended-by s _ w (c .spent-ended .ensures v s fine (e .0, subst (λ x. Yields x (s .global)) w (e .2)) h)
 
@@ -56,7 +59,8 @@ returns-3 : tie.Need-returns-3
 returns-3 c =
     λ v s fine e h.
     ended-freed s (s .server) refl
-    (rw (h .service .server) at (sym (c .before .before .before .before .as-front .ensures) ∙ c .before .before .before .if1 .left))
+    (rw (h .service .server) at (sym (c .before .before .before .before .as-front .ensures)
+    ∙ c .before .before .before .if1 .left))
     (rw (h .service .server) at (sym (c .before .before .as-spent .ensures) ∙ c .before .if2 .left))
     (rw (c .freed .ensures) (shows-freed h))
 

@@ -22,7 +22,8 @@ behind-requires c κs = search needs
 returns-2 : tie.Need-returns-2
 returns-2 c =
     λ v s fine e h.
-    rw (← rw (e .0) at (c .before .before .is-real-time .ensures), c .before .if1 .left) (c .behind .ensures v s fine (e .3) h)
+    rw (← rw (e .0) at (c .before .before .is-real-time .ensures), c .before .if1 .left)
+    (c .behind .ensures v s fine (e .3) h)
 
 pub entered-spec : {M : Type 1} → statement M
 entered-spec =

@@ -24,7 +24,8 @@ unfolding invoked
 returns c =
     λ v s fine e h.
     let n = enters (setupOf v) (c .before .before .before .before .before .args .c .0) s in
-    idle-picks n (s .server) (c .before .before .is-idle .ensures ∙ ap isIdle (h .service .server)) (c .before .if1 .taken)
+    idle-picks n (s .server) (c .before .before .is-idle .ensures ∙ ap isIdle (h .service .server))
+    (c .before .if1 .taken)
     (c .picked .ensures v n fine tt (c .before .before .before .entered .ensures v s fine e h))
 
 returns-2 : tie.Need-returns-2

@@ -63,24 +63,33 @@ waits-requires c κs = search needs
 
 returns-3 : tie.Need-returns-3
 returns-3 c =
-    let d = c .before .before .before .before .before .before .before .before .before .before .before .before .args .c .0 in
+    let b = c .before .before .before .before .before in
+    let a = b .before .before .before .before .before in
+    let d = a .before .before .args .c .0 in
     λ cs v s e h.
     refuses h (abort d) NotWaiting
-    (abort-absent v s d (e .2 .clients) (c .before .before .before .before .before .before .before .before .before .before .before .index .ensures) (c .before .before .before .before .before .before .before .before .before .before .if1 .left)
-    (rw (e .0) at (c .before .before .before .before .before .before .before .before .before .is-real-time .ensures)) (not-false _ (c .before .before .before .before .before .before .before .before .if2 .left))
-    (rw (c .before .before .before .before .index2 .ensures) at (c .before .before .before .is-spent .ensures) ∙ ap (λ x. isSpent x d) (h .queues .service .server))
-    (c .before .waits .ensures ∙ waits-is (h .queues) (rw (e .1) at (c .before .before .before .before .before .before .before .home .ensures)) _ _) (not-true _ (c .if3 .taken)))
+    (abort-absent v s d (e .2 .clients) (a .before .index .ensures) (a .if1 .left)
+    (rw (e .0) at (b .before .before .before .before .is-real-time .ensures))
+    (not-false _ (b .before .before .before .if2 .left))
+    (rw (c .before .before .before .before .index2 .ensures) at (c .before .before .before .is-spent .ensures)
+    ∙ ap (λ x. isSpent x d) (h .queues .service .server))
+    (c .before .waits .ensures ∙ waits-is (h .queues) (rw (e .1) at (b .before .before .home .ensures)) _ _)
+    (not-true _ (c .if3 .taken)))
     (λ z. omega arith)
 
 returns-4 : tie.Need-returns-4
 returns-4 c =
-    let d = c .before .before .before .before .before .before .before .before .before .before .before .before .before .args .c .0 in
+    let b = c .before .before .before .before .before in
+    let a = b .before .before .before .before .before in
+    let d = a .before .before .before .args .c .0 in
     λ cs v s e h.
     refuses h (abort d) SpentAlready
-    (abort-spent v s d (e .2 .clients) (c .before .before .before .before .before .before .before .before .before .before .before .before .index .ensures) (c .before .before .before .before .before .before .before .before .before .before .before .if1 .left)
-    (rw (e .0) at (c .before .before .before .before .before .before .before .before .before .before .is-real-time .ensures)) (not-false _ (c .before .before .before .before .before .before .before .before .before .if2 .left))
-    (rw (c .before .before .before .before .before .index2 .ensures) at (c .before .before .before .before .is-spent .ensures) ∙ ap (λ x. isSpent x d) (h .queues .service .server))
-    (c .before .before .waits .ensures ∙ waits-is (h .queues) (rw (e .1) at (c .before .before .before .before .before .before .before .before .home .ensures)) _ _) (not-false _ (c .before .if3 .left)) (c .if4 .taken))
+    (abort-spent v s d (e .2 .clients) (a .before .before .index .ensures) (a .before .if1 .left)
+    (rw (e .0) at (a .is-real-time .ensures)) (not-false _ (b .before .before .before .before .if2 .left))
+    (rw (b .index2 .ensures) at (c .before .before .before .before .is-spent .ensures) ∙ ap (λ x. isSpent x d)
+    (h .queues .service .server))
+    (c .before .before .waits .ensures ∙ waits-is (h .queues)
+    (rw (e .1) at (b .before .before .before .home .ensures)) _ _) (not-false _ (c .before .if3 .left)) (c .if4 .taken))
     (λ z. omega arith)
 
 aborted-requires : tie.Need-aborted-requires
@@ -89,13 +98,17 @@ aborted-requires c κs = search needs
 returns-5 : tie.Need-returns-5
 unfolding next
 returns-5 c =
-    let d = c .before .before .before .before .before .before .before .before .before .before .before .before .before .before .args .c .0 in
+    let b = c .before .before .before .before .before in
+    let a = b .before .before .before .before .before in
+    let d = a .before .before .before .before .args .c .0 in
     λ cs v s e h.
     accepts (abort d)
-    (abort-fine v s d (e .2 .clients) (c .before .before .before .before .before .before .before .before .before .before .before .before .before .index .ensures) (c .before .before .before .before .before .before .before .before .before .before .before .before .if1 .left)
-    (rw (e .0) at (c .before .before .before .before .before .before .before .before .before .before .before .is-real-time .ensures)) (not-false _ (c .before .before .before .before .before .before .before .before .before .before .if2 .left))
-    (rw (c .before .before .before .before .before .before .index2 .ensures) at (c .before .before .before .before .before .is-spent .ensures) ∙ ap (λ x. isSpent x d) (h .queues .service .server))
-    (c .before .before .before .waits .ensures ∙ waits-is (h .queues) (rw (e .1) at (c .before .before .before .before .before .before .before .before .before .home .ensures)) _ _) (not-false _ (c .before .before .if3 .left)) (c .before .if4 .left))
+    (abort-fine v s d (e .2 .clients) (a .before .before .before .index .ensures) (a .before .before .if1 .left)
+    (rw (e .0) at (a .before .is-real-time .ensures)) (not-false _ (a .if2 .left))
+    (rw (b .before .index2 .ensures) at (b .is-spent .ensures) ∙ ap (λ x. isSpent x d) (h .queues .service .server))
+    (c .before .before .before .waits .ensures ∙ waits-is (h .queues)
+    (rw (e .1) at (b .before .before .before .before .home .ensures)) _ _) (not-false _ (c .before .before .if3 .left))
+    (c .before .if4 .left))
     (c .aborted .ensures v s (fine h) (e .1, e .2, turn v s (h .sound) d) (h .queues)) (abort-charge h d)
 
 pub abort-spec : {M : Type 1} → statement M

@@ -22,7 +22,8 @@ returns : tie.Need-returns
 returns c =
     let d = c .before .before .args .c .0 in
     λ v s e h.
-    refuses h (invoke d) NoClient (invoke-unknown v s d (e .3) (c .before .index .ensures) (c .if1 .taken)) (λ z. omega arith)
+    refuses h (invoke d) NoClient (invoke-unknown v s d (e .3) (c .before .index .ensures) (c .if1 .taken))
+    (λ z. omega arith)
 
 home-requires : tie.Need-home-requires
 home-requires c κs = search needs
@@ -44,11 +45,15 @@ present-requires c κs = search needs
 
 returns-2 : tie.Need-returns-2
 returns-2 c =
-    let d = c .before .before .before .before .before .before .before .before .before .before .args .c .0 in
+    let b = c .before .before .before .before .before in
+    let a = b .before .before .before .before .before in
+    let d = a .args .c .0 in
     λ v s e h.
     refuses h (invoke d) WaitsAlready
-    (invoke-present v s d (e .3) (c .before .before .before .before .before .before .before .before .before .index .ensures) (c .before .before .before .before .before .before .before .before .if1 .left)
-    (c .before .present .ensures ∙ present-is (h .queues) (rw (e .1) at (c .before .before .before .before .before .before .before .home .ensures)) _ _) (c .if2 .taken)) (λ z. omega arith)
+    (invoke-present v s d (e .3) (b .before .before .before .before .index .ensures)
+    (b .before .before .before .if1 .left)
+    (c .before .present .ensures ∙ present-is (h .queues) (rw (e .1) at (b .before .before .home .ensures)) _ _)
+    (c .if2 .taken)) (λ z. omega arith)
 
 begun-requires : tie.Need-begun-requires
 begun-requires c κs = search needs
@@ -59,10 +64,13 @@ invoked-requires c κs = search needs
 returns-3 : tie.Need-returns-3
 unfolding next
 returns-3 c =
-    let d = c .before .before .before .before .before .before .before .before .before .before .before .before .before .args .c .0 in
+    let b = c .before .before .before .before .before in
+    let a = b .before .before .before .before .before in
+    let d = a .before .before .before .args .c .0 in
     λ v s e h.
-    let fits = invoke-fine v s d (e .3) (c .before .before .before .before .before .before .before .before .before .before .before .before .index .ensures) (c .before .before .before .before .before .before .before .before .before .before .before .if1 .left)
-    (c .before .before .before .before .present .ensures ∙ present-is (h .queues) (rw (e .1) at (c .before .before .before .before .before .before .before .before .before .before .home .ensures)) _ _) (c .before .before .before .if2 .left) in
+    let fits = invoke-fine v s d (e .3) (a .before .before .index .ensures) (a .before .if1 .left)
+    (c .before .before .before .before .present .ensures ∙ present-is (h .queues) (rw (e .1) at (a .home .ensures)) _ _)
+    (c .before .before .before .if2 .left) in
     accepts (invoke d) fits
     (c .invoked .ensures v s (fine h)
     (e .0, e .1, e .2, ready v s (h .sound) d (invoke-accepted (setupOf v) s d fits)) (h .queues))

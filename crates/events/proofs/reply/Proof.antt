@@ -19,7 +19,8 @@ is-idle-requires c κs = search needs
 returns : tie.Need-returns
 returns c =
     λ cs v s e h.
-    refuses h reply ServerIdle (reply-idle v s (c .before .is-idle .ensures ∙ ap isIdle (h .queues .service .server)) (c .if1 .taken)) (λ z. omega arith)
+    refuses h reply ServerIdle (reply-idle v s (c .before .is-idle .ensures ∙ ap isIdle (h .queues .service .server))
+    (c .if1 .taken)) (λ z. omega arith)
 
 replied-requires : tie.Need-replied-requires
 replied-requires c κs = search needs
@@ -28,7 +29,8 @@ returns-2 : tie.Need-returns-2
 unfolding next
 returns-2 c =
     λ cs v s e h.
-    accepts reply (reply-fine v s (c .before .before .is-idle .ensures ∙ ap isIdle (h .queues .service .server)) (c .before .if1 .left))
+    accepts reply (reply-fine v s (c .before .before .is-idle .ensures ∙ ap isIdle (h .queues .service .server))
+    (c .before .if1 .left))
     (c .replied .ensures v s (fine h) (e .0, e .1, yields v s (h .sound)) (h .queues)) (reply-charge h)
 
 pub reply-spec : {M : Type 1} → statement M

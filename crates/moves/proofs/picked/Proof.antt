@@ -23,7 +23,8 @@ served-requires c κs = search needs
 returns : tie.Need-returns
 returns c =
     λ v s fine e h.
-    rw (c .served .ensures, c .before .client-in .ensures, c .before .before .before .close-up .ensures) (pick-front h (c .before .before .before .before .before .if1 .taken))
+    rw (c .served .ensures, c .before .client-in .ensures, c .before .before .before .close-up .ensures)
+    (pick-front h (c .before .before .before .before .before .if1 .taken))
 
 array-read-y : tie.Need-array-read-y
 array-read-y c = search needs
@@ -44,13 +45,15 @@ returns-2 : tie.Need-returns-2
 returns-2 c =
     λ v s fine e h.
     rw (c .served2 .ensures, c .before .client-in2 .ensures, c .before .before .before .close-up2 .ensures)
-    (pick-best h (c .before .before .before .before .before .before .before .if1 .left) (c .before .before .before .before .before .if2 .taken))
+    (pick-best h (c .before .before .before .before .before .before .before .if1 .left)
+    (c .before .before .before .before .before .if2 .taken))
 
 served-requires-3 : tie.Need-served-requires-3
 served-requires-3 c κs = search needs
 
 returns-3 : tie.Need-returns-3
-returns-3 c = λ v s fine e h. rw (c .served3 .ensures) (pick-none h (c .before .before .before .if1 .left) (c .before .if2 .left))
+returns-3 c =
+    λ v s fine e h. rw (c .served3 .ensures) (pick-none h (c .before .before .before .if1 .left) (c .before .if2 .left))
 
 pub picked-spec : {M : Type 1} → statement M
 picked-spec =

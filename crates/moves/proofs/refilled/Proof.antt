@@ -28,7 +28,8 @@ returns : tie.Need-returns
 returns c =
     let k = c .before .before .before .before .before .args .k .0 in
     λ v s fine e h.
-    refill-full fine h k (omega arith) _ (rw (e .sizes) at (c .before .before .size .ensures)) (c .before .used .ensures) (c .if1 .taken)
+    refill-full fine h k (omega arith) _ (rw (e .sizes) at (c .before .before .size .ensures))
+    (c .before .used .ensures) (c .if1 .taken)
 
 highest-in-requires : tie.Need-highest-in-requires
 highest-in-requires c κs = search needs
@@ -37,7 +38,8 @@ returns-2 : tie.Need-returns-2
 returns-2 c =
     let k = c .before .before .before .before .before .before .before .args .k .0 in
     λ v s fine e h.
-    refill-none fine h k (omega arith) _ (rw (e .sizes) at (c .before .before .before .before .size .ensures)) (c .before .before .before .used .ensures) (c .before .before .if1 .left) _
+    refill-none fine h k (omega arith) _ (rw (e .sizes) at (c .before .before .before .before .size .ensures))
+    (c .before .before .before .used .ensures) (c .before .before .if1 .left) _
     (rw (e .priorities, e .clients) at (c .before .highest-in .ensures .0)) (c .if2 .taken)
 
 narrow-requires : tie.Need-narrow-requires
@@ -63,11 +65,15 @@ element-write-n c = search needs
 
 returns-3 : tie.Need-returns-3
 returns-3 c =
-    let k = c .before .before .before .before .before .before .before .before .before .before .args .k .0 in
+    let b = c .before .before .before .before .before in
+    let a = b .before .before .before .before .before in
+    let k = a .args .k .0 in
     λ v s fine e h.
     rw (c .without .ensures, c .before .longer .ensures, c .before .before .narrow .ensures)
-    (refill-moves fine h k (omega arith) _ (rw (e .sizes) at (c .before .before .before .before .before .before .before .size .ensures)) (c .before .before .before .before .before .before .used .ensures) (c .before .before .before .before .before .if1 .left) _
-    (rw (e .priorities, e .clients) at (c .before .before .before .before .highest-in .ensures .0)) (c .before .before .before .if2 .left))
+    (refill-moves fine h k (omega arith) _ (rw (e .sizes) at (b .before .before .size .ensures))
+    (b .before .used .ensures) (b .if1 .left) _
+    (rw (e .priorities, e .clients) at (c .before .before .before .before .highest-in .ensures .0))
+    (c .before .before .before .if2 .left))
 
 pub refilled-spec : {M : Type 1} → statement M
 refilled-spec =

@@ -18,7 +18,13 @@ holds-requires c κs = search needs
 
 returns-2 : tie.Need-returns-2
 returns-2 c =
-    rw (← c .before .before .before .before .before .waits .ensures, c .before .before .before .before .if1 .left, ← c .before .before .byte .ensures, ← c .before .holds .ensures, c .if2 .taken)
+    rw (
+      ← c .before .before .before .before .before .waits .ensures,
+      c .before .before .before .before .if1 .left,
+      ← c .before .before .byte .ensures,
+      ← c .before .holds .ensures,
+      c .if2 .taken,
+    )
 
 index-requires : tie.Need-index-requires
 index-requires c κs = search needs
@@ -28,7 +34,13 @@ serves-requires c κs = search needs
 
 returns-3 : tie.Need-returns-3
 returns-3 c =
-    rw (← c .before .before .before .before .before .before .before .waits .ensures, c .before .before .before .before .before .before .if1 .left, ← c .before .before .before .before .byte .ensures, ← c .before .before .before .holds .ensures, c .before .before .if2 .left)
+    rw (
+      ← c .before .before .before .before .before .before .before .waits .ensures,
+      c .before .before .before .before .before .before .if1 .left,
+      ← c .before .before .before .before .byte .ensures,
+      ← c .before .before .before .holds .ensures,
+      c .before .before .if2 .left,
+    )
     (rw (c .before .index .ensures, ← c .before .before .before .before .byte .ensures) at (c .serves .ensures))
 
 pub present-spec : {M : Type 1} → statement M

@@ -21,7 +21,13 @@ member-requires c κs = search needs
 
 returns-2 : tie.Need-returns-2
 returns-2 c =
-    rw (← c .before .before .before .before .byte .ensures, ← c .before .before .before .line-holds .ensures, c .before .before .if1 .left, c .before .before .before .before .byte .ensures, ← c .before .index .ensures)
+    rw (
+      ← c .before .before .before .before .byte .ensures,
+      ← c .before .before .before .line-holds .ensures,
+      c .before .before .if1 .left,
+      c .before .before .before .before .byte .ensures,
+      ← c .before .index .ensures,
+    )
     (c .member .ensures)
 
 pub waits-spec : {M : Type 1} → statement M

@@ -26,7 +26,8 @@ returns-2 : tie.Need-returns-2
 returns-2 c =
     let n = c .before .before .before .before .args .n in
     λ v s e h.
-    refuses h (run n) ServerIdle (run-idle v s (c .before .is-idle .ensures ∙ ap isIdle (h .queues .service .server)) n (c .before .before .before .if1 .left) (c .if2 .taken)) (λ z. omega arith)
+    refuses h (run n) ServerIdle (run-idle v s (c .before .is-idle .ensures ∙ ap isIdle (h .queues .service .server)) n
+    (c .before .before .before .if1 .left) (c .if2 .taken)) (λ z. omega arith)
 
 passes-cap-requires : tie.Need-passes-cap-requires
 passes-cap-requires c κs = search needs
@@ -36,7 +37,8 @@ returns-3 c =
     let n = c .before .before .before .before .before .before .args .n in
     λ v s e h.
     refuses h (run n) RunPastCap
-    (run-past v s (c .before .before .before .is-idle .ensures ∙ ap isIdle (h .queues .service .server)) n (c .before .before .before .before .before .if1 .left) (c .before .before .if2 .left)
+    (run-past v s (c .before .before .before .is-idle .ensures ∙ ap isIdle (h .queues .service .server)) n
+    (c .before .before .before .before .before .if1 .left) (c .before .before .if2 .left)
     (c .before .passes-cap .ensures ∙ ap₂ (λ l m. ltb l (m + n)) (e .2) (h .queues .service .units)) (c .if3 .taken))
     (λ z. omega arith)
 
@@ -49,10 +51,13 @@ charged-requires c κs =
 
 returns-4 : tie.Need-returns-4
 returns-4 c =
-    let n = c .before .before .before .before .before .before .before .before .args .n in
+    let b = c .before .before .before .before .before in
+    let n = b .before .before .before .args .n in
     λ v s e h.
-    run-charges v s (c .before .before .before .before .before .is-idle .ensures ∙ ap isIdle (h .queues .service .server)) n (c .before .before .before .before .before .before .before .if1 .left) (c .before .before .before .before .if2 .left)
-    (c .before .before .before .passes-cap .ensures ∙ ap₂ (λ l m. ltb l (m + n)) (e .2) (h .queues .service .units)) (c .before .before .if3 .left)
+    run-charges v s (b .is-idle .ensures ∙ ap isIdle (h .queues .service .server)) n (b .before .before .if1 .left)
+    (c .before .before .before .before .if2 .left)
+    (c .before .before .before .passes-cap .ensures ∙ ap₂ (λ l m. ltb l (m + n)) (e .2) (h .queues .service .units))
+    (c .before .before .if3 .left)
     (c .charged .ensures v s (e .0, e .1) h)
 
 pub run-spec : {M : Type 1} → statement M

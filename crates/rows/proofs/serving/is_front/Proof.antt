@@ -13,7 +13,11 @@ as-front-requires c κs = search needs
 returns : tie.Need-returns
 returns c =
     let a = c .before .before .args in
-    rw (front-is (serverOf (a .s)) (a .c), ← c .before .as-front .ensures, not-true (c .before .as-front .result) (c .if1 .taken))
+    rw (
+      front-is (serverOf (a .s)) (a .c),
+      ← c .before .as-front .ensures,
+      not-true (c .before .as-front .result) (c .if1 .taken),
+    )
 
 served-requires : tie.Need-served-requires
 served-requires c κs = search needs

@@ -13,7 +13,11 @@ as-spent-requires c κs = search needs
 returns : tie.Need-returns
 returns c =
     let a = c .before .before .args in
-    rw (spent-is (serverOf (a .s)) (a .c), ← c .before .as-spent .ensures, not-true (c .before .as-spent .result) (c .if1 .taken))
+    rw (
+      spent-is (serverOf (a .s)) (a .c),
+      ← c .before .as-spent .ensures,
+      not-true (c .before .as-spent .result) (c .if1 .taken),
+    )
 
 served-requires : tie.Need-served-requires
 served-requires c κs = search needs
