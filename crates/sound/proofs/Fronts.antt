@@ -17,7 +17,7 @@ use Rattle.rules.proofs.Tests.{by-test, clash, same-test, not-so, both-true}
 use Rattle.rules.proofs.Lists.{heads-has}
 use Rattle.rules.proofs.Counts.{none-below, some-not}
 use Rattle.sets.specs.Sets.{member, setOf, withOf}
-use Rattle.sets.proofs.Laws.{member-setOf, setOf-none, setOf-upd, setOf-same}
+use Rattle.sets.proofs.Laws.{setOf-none, setOf-upd, setOf-same}
 use Rattle.places.specs.Places.{unpad}
 use Rattle.gate.specs.declared.Line.{Line}
 use Rattle.gate.specs.declared.Setup.{Setup}

@@ -16,7 +16,7 @@ use Rattle.sets.proofs.Laws.{setOf-upd, setOf-none}
 use Rattle.gate.specs.Shown.{showRooms, table}
 use Rattle.gate.proofs.Parts.{room-put}
 use Rattle.gate.proofs.Tables.{table-same}
-use Rattle.standing.specs.Answers.{realBelow, clientsOf}
+use Rattle.standing.specs.Answers.{clientsOf}
 use Rattle.standing.specs.declared.Clients.{Clients}
 
 pub same-clients : {a b : Clients} → a .own ≡ b .own → a .real ≡ b .real → a .effort ≡ b .effort → a ≡ b

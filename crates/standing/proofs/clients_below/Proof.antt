@@ -1,11 +1,9 @@
 -- `standing::clients_below` meets its contract: the loop holds the clients passed.
 -- Assumes nothing.
-use Prim.Native.Nat.{ℕ, _-_, _≤_, _<_}
+use Prim.Native.Nat.{_-_, _≤_}
 use mathlib.Core.Path.{_≡_}
 use native.Mathlib.Omega.{arith}
-use lib.ListN.{getD}
-use borrow.Author.Needs.{needs}
-use Rattle.rules.specs.Limits.{maxClusters, maxClients}
+use Rattle.rules.specs.Limits.{maxClients}
 use Rattle.gate.specs.Shown.{table}
 use Rattle.standing.specs.Answers.{clientsOf}
 use Rattle.standing.proofs.Sets.{no-clients}
