@@ -179,8 +179,7 @@ pub fn sound(g: Gate) -> bool
     let Seen::Once(seen) = standing::lines_seen(&s.sizes, own, lines) else {
         return false;
     };
-    let background = g.background;
-    let Seen::Once(stand) = standing::queue_seen(&background, clients.effort, seen) else {
+    let Seen::Once(stand) = standing::queue_seen(&g.background, clients.effort, seen) else {
         return false;
     };
     let rooms = g.rooms;
@@ -188,11 +187,12 @@ pub fn sound(g: Gate) -> bool
         return false;
     }
     let fronts = firsts(lines);
-    let global = g.global;
-    if !global_sound(&global, queued(&s.homes, own, g.server, fronts)) {
+    let server = g.server;
+    let queue = queued(&s.homes, own, server, fronts);
+    if !global_sound(&g.global, queue) {
         return false;
     }
-    if !server_sound(clients, &s.homes, rooms, fronts, stand, g.server, g.units) {
+    if !server_sound(clients, &s.homes, rooms, fronts, stand, server, g.units) {
         return false;
     }
     if g.units > (s.cap as u32) {

@@ -64,7 +64,8 @@ module _ (p : ℕ → Bool) (s : ℕ) (q : List ℕ) {i x : ℕ} (e : x ≡ getD
       rw (drop-cons q i 0, ne-eqb (getD q i 0) unusedPlace u, ← e, m)
       (none-if (usedFirst (drop (suc i) q) && every p (x ∷ unpad (drop (suc i) q))) refl)
 
-pub queue-end : (p : ℕ → Bool) (q : List ℕ) (s : ℕ) → Ended q → queueSeen p q s ≡ cond (holdsOnly unusedPlace q) (some s) none
+pub queue-end : (p : ℕ → Bool) (q : List ℕ) (s : ℕ) → Ended q
+    → queueSeen p q s ≡ cond (holdsOnly unusedPlace q) (some s) none
 unfolding queueSeen every seenFrom
 queue-end p q s h = rw (h .nobody, h .rest) (by-test (holdsOnly unusedPlace q) (λ e. rw e) (λ e. rw e))
 
@@ -118,7 +119,8 @@ module _ (m : ℕ) (p : ℕ → Bool) (q : List ℕ) {j x : ℕ} (e : x ≡ getD
       let long : leb n m ≡ false = lt-leb n m (omega (arith, ltb-false j m f)) in
       rw long (and-false (usedFirst (drop (suc j) q)))))
 
-pub line-end : (m : ℕ) (p : ℕ → Bool) (q : List ℕ) (j : ℕ) → j ≤ m → Ended q → lineRest m p j q ≡ holdsOnly unusedPlace q
+pub line-end : (m : ℕ) (p : ℕ → Bool) (q : List ℕ) (j : ℕ) → j ≤ m → Ended q
+    → lineRest m p j q ≡ holdsOnly unusedPlace q
 unfolding lineRest every
 line-end m p q j b h =
     let n : j + 0 ≡ j = omega arith in

@@ -37,8 +37,8 @@ module _ (kinds : List ℕ) (n c : ℕ) where
   abbrev pub effortBelow : Bool
   effortBelow = ltb c n && not (eqb (getD kinds c 0) 0)
 
-abbrev pub clientsOf : List ℕ → List ℕ → ℕ → Clients
-clientsOf kinds homes n = record {
+abbrev pub setsOf : List ℕ → List ℕ → ℕ → Clients
+setsOf kinds homes n = record {
   own = showRooms (λ (c : ℕ). getD homes c 0) (realBelow kinds n);
   real = setOf maxClients (realBelow kinds n);
   effort = setOf maxClients (effortBelow kinds n);

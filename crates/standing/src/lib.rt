@@ -5,13 +5,14 @@ use gate::Line;
 use gate::Setup;
 ghost use mathlib.Core.Path.{_≡_};
 ghost use mathlib.Core.Bool.{_&&_};
-ghost use Prim.Native.Nat.{ℕ, _+_, _≤_, _<_};
+ghost use Prim.Native.Nat.{_+_, _≤_, _<_};
 ghost use lib.Dec.{ltb};
 ghost use lib.ListN.{getD, drop};
 ghost use Rattle.rules.specs.Limits.{maxClusters, maxClients};
 ghost use Rattle.sets.specs.Sets.{member};
+ghost use Rattle.gate.specs.Shows.{Homes};
 ghost use Rattle.soundness.specs.Clauses.{setupSound};
-ghost use Rattle.standing.specs.Answers.{holdsOnly, trimmed, clientsOf, seenOf, linesSeen, queueSeen};
+ghost use Rattle.standing.specs.Answers.{holdsOnly, trimmed, setsOf, seenOf, linesSeen, queueSeen};
 
 // A setup's clients as sets: the real-time clients of each cluster, all of them, and the best-effort clients.
 pub struct Clients {
@@ -100,11 +101,11 @@ pub fn setup_sound(s: Setup) -> bool
 // ITS CLIENTS
 
 // The clients below c, with c.
-fn with_client(kinds: &[u8; 64], homes: &[u8; 64], below: Clients, c: usize) -> Clients
-    requires { ⌜ (c < maxClients) × (getD (now homes) c 0 < maxClusters) × (below ≡ clientsOf (now kinds) (now homes) c) ⌝ }
-    ensures { λ r. ⌜ r ≡ clientsOf (now (kinds .entry)) (now (homes .entry)) (c + 1) ⌝ }
+fn with_client(kinds: &[u8; 64], homes: &[u8; 64], all: Clients, c: usize) -> Clients
+    requires { ⌜ (c < maxClients) × (getD (now homes) c 0 < maxClusters) × (all ≡ setsOf (now kinds) (now homes) c) ⌝ }
+    ensures { λ r. ⌜ r ≡ setsOf (now (kinds .entry)) (now (homes .entry)) (c + 1) ⌝ }
 {
-    let mut next = below;
+    let mut next = all;
     if kinds[c] != 0 {
         next.effort = sets::with(next.effort, c);
         return next;
@@ -117,8 +118,8 @@ fn with_client(kinds: &[u8; 64], homes: &[u8; 64], below: Clients, c: usize) -> 
 
 // The clients below n: one pass over their rows.
 pub fn clients_below<'a>(kinds: &'a [u8; 64], homes: &'a [u8; 64], n: usize) -> Clients
-    requires { ⌜ (n ≤ maxClients) × ((c : ℕ) → getD (now homes) c 0 < maxClusters) ⌝ }
-    ensures { λ r. ⌜ r ≡ clientsOf (now (kinds .entry)) (now (homes .entry)) n ⌝ }
+    requires { ⌜ (n ≤ maxClients) × Homes (now homes) ⌝ }
+    ensures { λ r. ⌜ r ≡ setsOf (now (kinds .entry)) (now (homes .entry)) n ⌝ }
 {
     let mut all = Clients {
         own: [0; 8],

@@ -43,7 +43,8 @@ returns-2 c =
       c .member .ensures,
       f .before .index .ensures,
       s .served .ensures,
-      as-front (serverOf (s .before .before .before .args .server)) (sym (f .as-front .ensures) ∙ c .before .if2 .taken),
+      as-front (serverOf (s .before .before .before .args .server))
+          (sym (f .as-front .ensures) ∙ c .before .if2 .taken),
     )
 
 as-spent-requires : tie.Need-as-spent-requires

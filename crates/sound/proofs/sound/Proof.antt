@@ -58,7 +58,7 @@ homes-of c = record { rows = lengths (begun c) .homes; low = fine (given c) (set
 
 clients-below-requires : tie.Need-clients-below-requires
 clients-below-requires c κs =
-    let f = fine (given c) (setup-is c) in (omega (arith, c .wide .ensures, f .clients), f .homes)
+    (omega (arith, c .wide .ensures, fine (given c) (setup-is c) .clients), homes-of c)
 
 clients-are : (c : tie.After-clients-below)
     → c .clients-below .result ≡ clients (given (c .before) .setup) (fine (given (c .before)) (setup-is (c .before)))
@@ -83,10 +83,6 @@ returns-2 c =
     sym (by-lines (given w) (setup-is w) (lengths (begun w) .background) (k .clients-below .result) (clients-are k)
     (sym (ap seenOf (c .enum-told .given .1)) ∙ l .lines-seen .ensures))
 
-slice-aggregate-queue-seen : tie.Need-slice-aggregate-queue-seen
-slice-aggregate-queue-seen c = sym (lengths (begun (c .before .before .before .before .before .before
-    .before .before .before .before .before)) .background)
-
 queue-seen-requires : tie.Need-queue-seen-requires
 queue-seen-requires c κs = search needs
 
@@ -98,7 +94,7 @@ enum-told-2 c = search needs
 
 -- the lines, and the clients, where everyone is seen
 abbrev lines-of : tie.After-queue-seen → tie.After-lines-seen
-lines-of c = c .before .before .before .before .before .before
+lines-of c = c .before .before .before .before .before .before .before
 
 abbrev sets-of : tie.After-queue-seen → tie.After-clients-below
 sets-of c = lines-of c .before .before .before .before .before
@@ -106,9 +102,10 @@ sets-of c = lines-of c .before .before .before .before .before
 lines-told : (c : tie.After-queue-seen)
     → let k = sets-of c in
     let g = given (k .before) in
-    some (c .before .before .before .before .seen .given .0 .0)
+    some (c .before .before .before .before .before .seen .given .0 .0)
     ≡ linesSeen (g .setup .sizes) (k .clients-below .result .own) (g .lines)
-lines-told c = sym (ap seenOf (c .before .before .before .before .seen .given .1)) ∙ lines-of c .lines-seen .ensures
+lines-told c =
+    sym (ap seenOf (c .before .before .before .before .before .seen .given .1)) ∙ lines-of c .lines-seen .ensures
 
 returns-3 : tie.Need-returns-3
 returns-3 c =
@@ -127,7 +124,7 @@ abbrev wide-of : tie.Else2 → tie.After-wide
 wide-of c = sets-of (stand-of c .before .before) .before
 
 abbrev rooms-of : tie.Else3 → tie.Else2
-rooms-of c = c .before .before .before .before .before .before .before .before
+rooms-of c = c .before .before .before .before .before .before .before .before .before
 
 abbrev global-of : tie.Else4 → tie.Else3
 global-of c = c .before .before .before .before
@@ -156,19 +153,16 @@ returns-4 c =
 firsts-requires : tie.Need-firsts-requires
 firsts-requires c κs = search needs
 
-slice-aggregate-global-sound : tie.Need-slice-aggregate-global-sound
-slice-aggregate-global-sound c = sym (lengths (begun (wide-of (c .before .before .before))) .global)
-
 queued-requires : tie.Need-queued-requires
-queued-requires c κs = homes-of (wide-of (c .before .before .before .before .before))
+queued-requires c κs = homes-of (wide-of (c .before .before .before))
 
 global-sound-requires : tie.Need-global-sound-requires
 global-sound-requires c κs = search needs
 
 returns-5 : tie.Need-returns-5
 returns-5 c =
-    let q = c .before .before in
-    let f = q .before .before .before .before .before in
+    let q = c .before .before .before .before .before in
+    let f = q .before .before .before in
     let r = f .before in
     sym (by-sets (stand-of r) (f .firsts .ensures) (q .queued .ensures)
     ∙ passes (r .before .rooms-sound .ensures) (not-false _ (r .if2 .left))
@@ -176,7 +170,7 @@ returns-5 c =
 
 -- what is left to test then
 by-global : (c : tie.Else3)
-    → let f = c .before .before .before .before .before .before .before in
+    → let f = c .before .before .before .before .before .before .before .before in
     let d = stand-of (f .before) in
     let k = sets-of (d .before .before) in
     let g = given (k .before) in
@@ -184,8 +178,8 @@ by-global : (c : tie.Else3)
     (d .stand .given .0 .0) (g .units) (serverOf (g .server))
     && (leb (g .units) (g .setup .cap) && chargesFit (k .clients-below .result .real) (g .charges))
 by-global c =
-    let q = c .before .before in
-    let f = q .before .before .before .before .before in
+    let q = c .before .before .before .before .before in
+    let f = q .before .before .before in
     let r = f .before in
     by-sets (stand-of r) (f .firsts .ensures) (q .queued .ensures)
     ∙ passes (r .before .rooms-sound .ensures) (not-false _ (r .if2 .left))
@@ -234,7 +228,6 @@ sound-spec =
     enum-known-seen
     enum-told
     returns-2
-    slice-aggregate-queue-seen
     queue-seen-requires
     enum-known-stand
     enum-told-2
@@ -242,7 +235,6 @@ sound-spec =
     rooms-sound-requires
     returns-4
     firsts-requires
-    slice-aggregate-global-sound
     queued-requires
     global-sound-requires
     returns-5

@@ -51,9 +51,8 @@ unfolding seenFrom
 returns c =
     let o = c .before .lines in
     let a = c .before .before .args in
-    let all = all-done maxClusters (o .k) (fits (a .sizes .now) (a .t2) (a .t3)) (omega arith) (omega arith)
-    (o .inv .2) in
-    sym (lines-pass (a .sizes .now) (a .t2) (a .t3) (o .seen) (o .inv .1) all
+    sym (lines-pass (a .sizes .now) (a .t2) (a .t3) (o .seen) (o .inv .1)
+    (all-done maxClusters (o .k) (fits (a .sizes .now) (a .t2) (a .t3)) (omega arith) (omega arith) (o .inv .2))
     (sym (o .inv .3) ∙ rw (joined-end (linesIn (a .t3)) (o .k) maxClusters (omega arith))))
 
 element-copy-out-wide : tie.Need-element-copy-out-wide Inv-places μ-places Inv-lines μ-lines
@@ -80,10 +79,9 @@ places-holds c =
     let p = w .before .before .before in
     let o = p .lines in
     let a = p .before .args in
-    let b : o .k < length (a .t3) = omega (arith, o .inv .1) in
     let q = getD (a .t3) (o .k) blankLine .places in
     let known = member (getD (a .t2) (o .k) 0) in
-    let n = lines-each (a .t3) 8 _ (p .before .good .1 .1 .0) (o .k) blankLine b in (
+    let n = lines-each (a .t3) 8 _ (p .before .good .1 .1 .0) (o .k) blankLine (omega (arith, o .inv .1)) in (
       omega arith,
       omega arith,
       n,
@@ -156,8 +154,7 @@ line-rest : (c : tie.Left-places Inv-places μ-places Inv-lines μ-lines)
     fits (p .before .args .sizes .now) (p .before .args .t2) (p .before .args .t3) (p .lines .k)
     ≡ holdsOnly unusedPlace (left c)
 line-rest c =
-    let i = c .before .places in
-    sym (i .inv .3) ∙ line-end _ _ (left c) (i .j) (i .inv .1) (line-ended c)
+    let i = c .before .places in sym (i .inv .3) ∙ line-end _ _ (left c) (i .j) (i .inv .1) (line-ended c)
 
 slice-aggregate-holds-only-from :
     tie.Need-slice-aggregate-holds-only-from Inv-places μ-places Inv-lines μ-lines
@@ -176,11 +173,11 @@ lines-again : tie.Need-lines-again Inv-places μ-places Inv-lines μ-lines
 lines-again c =
     let e = c .before .before .before in
     let p = e .before .before .before .before .before .before .before in
-    let a = p .before .args in
-    let good = sym (c .before .holds-only-from .ensures) ∙ not-false _ (c .if5 .left) in (
+    let a = p .before .args in (
       omega arith,
       p .lines .inv .1,
-      all-more (p .lines .k) (fits (a .sizes .now) (a .t2) (a .t3)) (line-rest e ∙ good) (p .lines .inv .2),
+      all-more (p .lines .k) (fits (a .sizes .now) (a .t2) (a .t3))
+          (line-rest e ∙ sym (c .before .holds-only-from .ensures) ∙ not-false _ (c .if5 .left)) (p .lines .inv .2),
       rw (line-ended e .nobody) at (e .before .places .inv .4),
     )
 
@@ -213,8 +210,8 @@ returns-4 c =
     let e = c .before .before .before in
     let p = e .before .before .before .before .before .before .before in
     let a = p .before .args in
-    let bad = sym (c .before .holds-only-from .ensures) ∙ not-true _ (c .if5 .taken) in
-    sym (line-fails (a .sizes .now) (a .t2) (a .t3) (p .lines .k) (omega arith) (line-rest e ∙ bad))
+    sym (line-fails (a .sizes .now) (a .t2) (a .t3) (p .lines .k) (omega arith)
+    (line-rest e ∙ sym (c .before .holds-only-from .ensures) ∙ not-true _ (c .if5 .taken)))
 
 pub lines-seen-spec : {M : Type 1} → statement M
 lines-seen-spec =
