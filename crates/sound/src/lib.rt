@@ -6,9 +6,7 @@ use gate::Server;
 use standing::Clients;
 use standing::Seen;
 ghost use mathlib.Core.Path.{_≡_};
-ghost use mathlib.Core.Bool.{_&&_};
 ghost use Prim.Native.Nat.{_<_};
-ghost use lib.Dec.{eqb};
 ghost use lib.ListN.{length};
 ghost use Rattle.rules.specs.Limits.{maxClients, maxClusters};
 ghost use Rattle.sets.specs.Sets.{member};
@@ -97,17 +95,8 @@ fn global_sound(q: &[u8], fronts: u64) -> bool
 
 // THE SERVER
 
-fn idle_sound(units: u32, stand: u64) -> bool
-    ensures { λ r. ⌜ r ≡ (eqb units 0 && eqb stand 0) ⌝ }
-{
-    if units != 0 {
-        return false;
-    }
-    stand == 0
-}
-
-// Of whoever is in service: a front is one of the fronts; a best-effort client is in no queue; a spent client is
-// real-time, and neither in a line nor in its waiting room.
+// Idle: nobody waits, and 0 units served. A front is one of the fronts. A best-effort client is in no queue. A spent
+// client is real-time, and neither in a line nor in its waiting room.
 fn server_sound(
     clients: Clients,
     homes: &[u8; 64],
@@ -121,7 +110,10 @@ fn server_sound(
     ensures { λ r. ⌜ r ≡ serverFits clients (now (homes .entry)) rooms fronts stand units (serverOf server) ⌝ }
 {
     if rows::is_idle(server) {
-        return idle_sound(units, stand);
+        if units != 0 {
+            return false;
+        }
+        return stand == 0;
     }
     let c = rows::index(rows::served(server));
     if rows::as_front(server) {
