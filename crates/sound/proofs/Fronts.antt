@@ -8,7 +8,7 @@ use native.Mathlib.Numerals.{add-one}
 use native.Mathlib.Omega.{arith}
 use lib.Dec.{eqb, ltb}
 use lib.ListN.{length, getD}
-use borrow.Author.Tests.{eqb-true, eqb-false, eq-eqb, ne-eqb, ltb-true, lt-ltb}
+use borrow.Author.Tests.{eqb-true, ne-eqb, ltb-true, lt-ltb}
 use Rattle.rules.specs.Limits.{maxClusters, maxClients, unusedPlace}
 use Rattle.rules.specs.Lists.{heads, someBelow}
 use Rattle.rules.specs.Setup as rules
@@ -17,7 +17,7 @@ use Rattle.rules.proofs.Tests.{by-test, clash, same-test, not-so, both-true}
 use Rattle.rules.proofs.Lists.{heads-has}
 use Rattle.rules.proofs.Counts.{none-below, some-not}
 use Rattle.sets.specs.Sets.{member, setOf, withOf}
-use Rattle.sets.proofs.Laws.{member-setOf, setOf-none, setOf-upd, setOf-same}
+use Rattle.sets.proofs.Laws.{setOf-none, setOf-upd, setOf-same}
 use Rattle.places.specs.Places.{unpad}
 use Rattle.gate.specs.declared.Line.{Line}
 use Rattle.gate.specs.declared.Setup.{Setup}
@@ -27,14 +27,9 @@ use Rattle.soundness.specs.Clauses.{ofCluster, linesSound}
 use Rattle.soundness.proofs.Facts.{OfCluster, lines-facts}
 use Rattle.soundness.proofs.Sets.{members}
 use Rattle.standing.specs.Answers.{linesIn}
+use Rattle.standing.proofs.Once.{flip}
 use Rattle.sound.specs.Answers.{firstsOf, queuedOf}
 use Rattle.sound.proofs.Members.{clients, own-is}
-
-flip : (a b : ℕ) → eqb a b ≡ eqb b a
-flip a b =
-    by-test (eqb a b)
-    (λ e. e ∙ sym (eq-eqb b a (sym (eqb-true a b e))))
-    (λ e. e ∙ sym (ne-eqb b a (λ q. eqb-false a b e (sym q))))
 
 -- ONE LINE AFTER THE OTHER
 

@@ -20,7 +20,7 @@ use Rattle.gate.proofs.Parts.{room-at}
 use Rattle.gate.proofs.Tables.{table-past}
 use Rattle.soundness.specs.Clauses.{isReal, ofCluster, ofBackground}
 use Rattle.soundness.proofs.Sets.{members}
-use Rattle.standing.specs.Answers.{clientsOf}
+use Rattle.standing.specs.Answers.{setsOf}
 use Rattle.standing.specs.declared.Clients.{Clients}
 
 pub in-set : (p : ℕ → Bool) (x : ℕ) → member (setOf maxClients p) x ≡ true → x < maxClients
@@ -39,7 +39,7 @@ module _ (v : Setup) (fine : Fine v) where
   u = setupOf v
 
   abbrev pub clients : Clients
-  clients = clientsOf (v .kinds) (v .homes) (v .clients)
+  clients = setsOf (v .kinds) (v .homes) (v .clients)
 
   known : (b : Bool) (c : ℕ) → ltb c (v .clients) && b ≡ true → c < maxClients
   known b c e = omega (arith, ltb-true c (v .clients) (both-true (ltb c (v .clients)) b e .0), fine .clients)
@@ -59,9 +59,11 @@ module _ (v : Setup) (fine : Fine v) where
       (λ e. fun-ext (λ c.
       ap (λ w. member w c) (room-at (u .cluster) (isReal u) refl (ltb-true k maxClusters e) 0)
       ∙ members (ofCluster u k) (own-known k) c))
-      (λ e. fun-ext (λ c.
-      ap (λ w. member w c) (table-past maxClusters (λ j. setOf maxClients (ofCluster u j)) k 0 (ltb-false k maxClusters e))
-      ∙ member-none c ∙ sym (none k c (ltb-false k maxClusters e)))))
+      (λ e.
+      let past = ltb-false k maxClusters e in
+      fun-ext (λ c.
+      ap (λ w. member w c) (table-past maxClusters (λ j. setOf maxClients (ofCluster u j)) k 0 past)
+      ∙ member-none c ∙ sym (none k c past))))
     where
       none : (k c : ℕ) → maxClusters ≤ k → ofCluster u k c ≡ false
       none k c b =

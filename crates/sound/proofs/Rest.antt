@@ -1,31 +1,32 @@
 -- The whole test by the parts of a gate: a sound setup, everyone in a line or the background queue, and the rest.
 -- Assumes nothing.
-use Prim.Native.Nat.{ℕ, _<_}
+use Prim.Native.Nat.{ℕ}
 use mathlib.Core.Path.{_≡_, refl, sym, ap, _∙_, fun-ext}
-use mathlib.Core.Bool.{Bool, true, false, not, _&&_}
+use mathlib.Core.Bool.{Bool, true, false, _&&_}
 use mathlib.Core.Option.{Option, some, none}
 use native.Mathlib.Omega.{arith}
-use lib.Dec.{eqb, ltb, leb}
+use lib.Dec.{eqb, leb}
 use lib.ListN.{length, getD}
-use borrow.Author.Tests.{eq-eqb, le-ltb, lt-ltb, ltb-true, ltb-false}
+use borrow.Author.Tests.{eq-eqb, lt-ltb}
 use Rattle.rules.specs.Limits.{maxClusters, maxClients}
 use Rattle.rules.specs.Setup as rules
 use Rattle.rules.specs.State as state
 use Rattle.rules.specs.State.{State, idle, front, best, spent}
-use Rattle.rules.proofs.Tests.{by-test, both-true}
+use Rattle.rules.proofs.Tests.{by-test}
 use Rattle.rules.proofs.Setups.{Allowed, allowed}
 use Rattle.sets.specs.Sets.{member, lessOf}
 use Rattle.places.specs.Places.{unpad}
+use Rattle.gate.specs.declared.Setup.{Setup}
 use Rattle.gate.specs.declared.Gate.{Gate}
 use Rattle.gate.specs.Shown.{setupOf, serverOf, stateOf}
 use Rattle.gate.specs.Shows.{Fine}
 use Rattle.gate.proofs.SoundShows.{accepted-fine}
 use Rattle.soundness.specs.Tests.{allBelow, joined}
-use Rattle.soundness.specs.Clauses.{laid, isReal, ofCluster, ofBackground, setupSound, everyone, lineSound, linesSound}
+use Rattle.soundness.specs.Clauses.{laid, isReal, ofCluster, setupSound, everyone, lineSound, linesSound}
 use Rattle.soundness.specs.Clauses.{backgroundSound, standSound, roomsSound, serverSound, chargesSound, restSound}
 use Rattle.soundness.specs.Clauses.{soundOf}
 use Rattle.soundness.proofs.Facts.{setup-facts}
-use Rattle.standing.specs.Answers.{linesIn, lineFits, linesFit, seenIf, linesSeen, queueSeen, standing}
+use Rattle.standing.specs.Answers.{linesIn, lineFits, linesFit, seenIf, linesSeen, queueSeen}
 use Rattle.standing.specs.declared.Clients.{Clients}
 use Rattle.standing.proofs.Once.{andThen}
 use Rattle.standing.proofs.Standing.{standing-is}
@@ -34,6 +35,14 @@ use Rattle.sound.proofs.Members.{in-set, less-is, clients, real-is, eff
 use Rattle.sound.proofs.Rooms.{room-is}
 use Rattle.sound.proofs.Fronts.{first-is}
 use Rattle.sound.proofs.Globals.{global-is}
+
+-- a clause that is answered, before the others
+module _ {a r : Bool} (p : r ≡ a) where
+  pub passes : {b : Bool} → r ≡ true → a && b ≡ b
+  passes e = rw (sym p ∙ e)
+
+  pub fails : r ≡ false → (b : Bool) → a && b ≡ false
+  fails e b = rw (sym p ∙ e)
 
 -- the clauses but the first two, by the sets of the setup's clients, of the fronts, and of those to be queued
 abbrev pub restFits : Gate → Clients → ℕ → ℕ → ℕ → Bool
@@ -44,39 +53,43 @@ restFits g cs fronts queue standing =
     && (leb (g .units) (g .setup .cap) && chargesFit (cs .real) (g .charges))))
 
 module _ (g : Gate) (e : setupSound (g .setup) ≡ true) where
+  abbrev v : Setup
+  v = g .setup
+
   abbrev u : rules.Setup
-  u = setupOf (g .setup)
+  u = setupOf v
 
   abbrev s : State
   s = stateOf g
 
   pub ok : Allowed u
-  ok = allowed u (setup-facts (g .setup) e .0)
+  ok = allowed u (setup-facts v e .0)
 
-  pub fine : Fine (g .setup)
-  fine = accepted-fine (g .setup) (setup-facts (g .setup) e .0) (setup-facts (g .setup) e .1)
+  pub fine : Fine v
+  fine = accepted-fine v (setup-facts v e .0) (setup-facts v e .1)
 
   abbrev cs : Clients
-  cs = clients (g .setup) fine
+  cs = clients v fine
 
   -- LINES AND THE BACKGROUND QUEUE
 
-  lines-are : linesSeen (g .setup .sizes) (cs .own) (g .lines)
+  lines-are : linesSeen (v .sizes) (cs .own) (g .lines)
       ≡ seenIf (linesSound u (g .lines)) 0 (joined (linesIn (g .lines)) 0 maxClusters)
   unfolding linesFit lineFits linesSound lineSound
   lines-are =
       ap (λ p. seenIf (linesFit (u .size) p (g .lines)) 0 (joined (linesIn (g .lines)) 0 maxClusters))
-      (own-is (g .setup) fine)
+      (own-is v fine)
 
   background-is : length (g .background) ≡ maxClients → (t : ℕ)
-      → queueSeen (member (cs .effort)) (g .background) t ≡ seenIf (backgroundSound u (g .background)) t (unpad (g .background))
+      → queueSeen (member (cs .effort)) (g .background) t
+      ≡ seenIf (backgroundSound u (g .background)) t (unpad (g .background))
   unfolding queueSeen backgroundSound laid
-  background-is n t = rw (effort-is (g .setup) fine, eq-eqb (length (g .background)) maxClients n)
+  background-is n t = rw (effort-is v fine, eq-eqb (length (g .background)) maxClients n)
 
   sound-is : length (g .background) ≡ maxClients
-      → soundOf g ≡ thenTest (andThen (linesSeen (g .setup .sizes) (cs .own) (g .lines))
+      → soundOf g ≡ thenTest (andThen (linesSeen (v .sizes) (cs .own) (g .lines))
       (λ t. queueSeen (member (cs .effort)) (g .background) t)) (restSound u g s)
-  unfolding soundOf standing stateOf
+  unfolding soundOf stateOf
   sound-is n =
       rw (e, lines-are, fun-ext (background-is n), ← standing-is u (fine .clients) (g .lines) (g .background))
       (by-test (standSound u (g .lines) (g .background) (everyone (linesIn (g .lines)) (unpad (g .background))))
@@ -84,7 +97,7 @@ module _ (g : Gate) (e : setupSound (g .setup) ≡ true) where
 
   -- THE REST
 
-  module _ (t : ℕ) (seen : linesSeen (g .setup .sizes) (cs .own) (g .lines) ≡ some t) where
+  module _ (t : ℕ) (seen : linesSeen (v .sizes) (cs .own) (g .lines) ≡ some t) where
     sound : linesSound u (g .lines) ≡ true
     sound =
         by-test (linesSound u (g .lines)) (λ q. q) (λ q.
@@ -92,10 +105,10 @@ module _ (g : Gate) (e : setupSound (g .setup) ≡ true) where
         let y : _≡_ {A = ℕ} 0 1 = cc in absurd (omega arith))
 
     own : (k c : ℕ) → member (getD (cs .own) k 0) c ≡ ofCluster u k c
-    own k c = ap (λ f. f k c) (own-is (g .setup) fine)
+    own k c = ap (λ f. f k c) (own-is v fine)
 
     rooms-are : (standing : ℕ)
-        → roomsFit (g .setup .sizes) (cs .own) standing (g .lines) (g .rooms) ≡ roomsSound u standing (s .lines) (g .rooms)
+        → roomsFit (v .sizes) (cs .own) standing (g .lines) (g .rooms) ≡ roomsSound u standing (s .lines) (g .rooms)
     unfolding roomsFit roomsSound stateOf
     rooms-are standing =
         ap (λ p. eqb (length (g .rooms)) maxClusters && allBelow maxClusters p) (fun-ext (λ k.
@@ -103,47 +116,52 @@ module _ (g : Gate) (e : setupSound (g .setup) ≡ true) where
         (s .lines k) (getD (g .rooms) k 0)))
 
     server-is : (standing : ℕ) (x : state.Server)
-        → serverFits cs (g .setup .homes) (g .rooms) (firstsOf (g .lines) maxClusters) standing (g .units) x
+        → serverFits cs (v .homes) (g .rooms) (firstsOf (g .lines) maxClusters) standing (g .units) x
         ≡ serverSound u standing s x
     unfolding stateOf
     server-is standing idle = refl
-    server-is standing (front c) = first-is (g .setup) fine (g .lines) sound c
-    server-is standing (best c) = less-is (cs .effort) standing (in-set _) c ∙ rw (effort-is (g .setup) fine)
+    server-is standing (front c) = first-is v fine (g .lines) sound c
+    server-is standing (best c) = less-is (cs .effort) standing (in-set _) c ∙ rw (effort-is v fine)
     server-is standing (spent c) =
         let k = u .cluster c in
         less-is (lessOf (getD (cs .own) k 0) standing) (getD (g .rooms) k 0) (in-set _) c
-        ∙ rw (less-is (getD (cs .own) k 0) standing (λ x q. own-known (g .setup) fine k x (sym (own k x) ∙ q)) c, own k c)
+        ∙ rw (less-is (getD (cs .own) k 0) standing (λ x q. own-known v fine k x (sym (own k x) ∙ q)) c, own k c)
         (by-test (isReal u c)
-        (λ q. rw (q, eq-eqb k k refl, lt-ltb c maxClients (own-known (g .setup) fine k c (rw (q, eq-eqb k k refl)))))
+        (λ q. rw (q, eq-eqb k k refl, lt-ltb c maxClients (own-known v fine k c (rw (q, eq-eqb k k refl)))))
         (λ q. rw q))
 
     charges-are : chargesFit (cs .real) (g .charges) ≡ chargesSound u (g .charges)
     unfolding chargesFit chargesSound
-    charges-are = rw (real-is (g .setup) fine)
+    charges-are = rw (real-is v fine)
 
     rest-is : length (g .global) ≡ maxClusters → (standing : ℕ)
         → restFits g cs (firstsOf (g .lines) maxClusters)
-        (queuedOf (g .setup .homes) (cs .own) (serverOf (g .server)) (firstsOf (g .lines) maxClusters)) standing
+        (queuedOf (v .homes) (cs .own) (serverOf (g .server)) (firstsOf (g .lines) maxClusters)) standing
         ≡ restSound u g s standing
     unfolding restSound stateOf
     rest-is n standing =
-        rw (rooms-are standing, global-is g fine ok sound (g .global) n, server-is standing (serverOf (g .server)), charges-are)
+        rw (
+          rooms-are standing,
+          global-is g fine ok sound (g .global) n,
+          server-is standing (serverOf (g .server)),
+          charges-are,
+        )
 
   -- AS FAR AS IT IS SEEN
 
   module _ (n : length (g .background) ≡ maxClients) (found : Clients) (same : found ≡ cs) where
-    pub by-lines : {a : Option ℕ} → a ≡ linesSeen (g .setup .sizes) (found .own) (g .lines)
+    pub by-lines : {a : Option ℕ} → a ≡ linesSeen (v .sizes) (found .own) (g .lines)
         → soundOf g ≡ thenTest (andThen a (queueSeen (member (found .effort)) (g .background))) (restSound u g s)
     by-lines p = rw (p, same) (sound-is n)
 
-    module _ {t : ℕ} (p : some t ≡ linesSeen (g .setup .sizes) (found .own) (g .lines)) where
+    module _ {t : ℕ} (p : some t ≡ linesSeen (v .sizes) (found .own) (g .lines)) where
       pub by-queue : {b : Option ℕ} → b ≡ queueSeen (member (found .effort)) (g .background) t
           → soundOf g ≡ thenTest b (restSound u g s)
       by-queue q = by-lines p ∙ rw q
 
       pub by-rest : {z : ℕ} → some z ≡ queueSeen (member (found .effort)) (g .background) t
           → length (g .global) ≡ maxClusters → {fronts queue : ℕ} → fronts ≡ firstsOf (g .lines) maxClusters
-          → queue ≡ queuedOf (g .setup .homes) (found .own) (serverOf (g .server)) fronts
+          → queue ≡ queuedOf (v .homes) (found .own) (serverOf (g .server)) fronts
           → soundOf g ≡ restFits g found fronts queue z
       by-rest {z} q m f e =
           by-queue q ∙ rw (e, f, same) (sym (rest-is t (rw same at (sym p)) m z))

@@ -85,5 +85,6 @@ module _ (u : rules.Setup) (few : u .clients ≤ maxClients) (k own : ℕ)
       below b w =
           rw (sym (setOf-member maxClients room b)
           ∙ sym (setOf-cut (u .clients) maxClients (member room) (member room) few (λ c l. refl) (λ c l past.
-          not-so (member room c) (λ m. omega (arith, of-cluster u k c (both-true (ofCluster u k c) _ (w c l m) .0) .known)))))
+          not-so (member room c) (λ m.
+          omega (arith, of-cluster u k c (both-true (ofCluster u k c) _ (w c l m) .0) .known)))))
           (setOf-below (u .clients) (member room))

@@ -1,7 +1,7 @@
 -- The clauses of soundness by the parts of a gate, with clients in sets: what the functions of this crate answer.
 -- Assumes nothing.
 use Prim.Native.Nat.{ℕ, _^_}
-use mathlib.Core.Bool.{Bool, false, not, _&&_, _||_}
+use mathlib.Core.Bool.{Bool, false, _&&_, _||_}
 use mathlib.Core.List.{List}
 use mathlib.Core.Option.{Option, some, none}
 use lib.Dec.{eqb, ltb, leb}
@@ -10,7 +10,6 @@ use Rattle.rules.specs.Limits.{maxClusters, maxClients, maxCharge}
 use Rattle.rules.specs.Lists.{someBelow}
 use Rattle.rules.specs.State.{Server, idle, front, best, spent}
 use Rattle.sets.specs.Sets.{member, setOf, withoutOf, lessOf}
-use Rattle.places.specs.Places.{unpad}
 use Rattle.gate.specs.declared.Line.{Line}
 use Rattle.gate.specs.Shown.{blankLine}
 use Rattle.soundness.specs.Tests.{allBelow}

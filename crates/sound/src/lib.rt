@@ -6,10 +6,8 @@ use gate::Server;
 use standing::Clients;
 use standing::Seen;
 ghost use mathlib.Core.Path.{_≡_};
-ghost use mathlib.Core.Bool.{_&&_};
 ghost use Prim.Native.Nat.{_<_};
-ghost use lib.Dec.{eqb};
-ghost use lib.ListN.{length, getD};
+ghost use lib.ListN.{length};
 ghost use Rattle.rules.specs.Limits.{maxClients, maxClusters};
 ghost use Rattle.sets.specs.Sets.{member};
 ghost use Rattle.places.specs.Places.{unpad};
@@ -97,17 +95,8 @@ fn global_sound(q: &[u8], fronts: u64) -> bool
 
 // THE SERVER
 
-fn idle_sound(units: u32, stand: u64) -> bool
-    ensures { λ r. ⌜ r ≡ (eqb units 0 && eqb stand 0) ⌝ }
-{
-    if units != 0 {
-        return false;
-    }
-    stand == 0
-}
-
-// Of whoever is in service: a front is one of the fronts; a best-effort client is in no queue; a spent client is
-// real-time, and neither in a line nor in its waiting room.
+// Idle: nobody waits, and 0 units served. A front is one of the fronts. A best-effort client is in no queue. A spent
+// client is real-time, and neither in a line nor in its waiting room.
 fn server_sound(
     clients: Clients,
     homes: &[u8; 64],
@@ -121,7 +110,10 @@ fn server_sound(
     ensures { λ r. ⌜ r ≡ serverFits clients (now (homes .entry)) rooms fronts stand units (serverOf server) ⌝ }
 {
     if rows::is_idle(server) {
-        return idle_sound(units, stand);
+        if units != 0 {
+            return false;
+        }
+        return stand == 0;
     }
     let c = rows::index(rows::served(server));
     if rows::as_front(server) {
@@ -179,8 +171,7 @@ pub fn sound(g: Gate) -> bool
     let Seen::Once(seen) = standing::lines_seen(&s.sizes, own, lines) else {
         return false;
     };
-    let background = g.background;
-    let Seen::Once(stand) = standing::queue_seen(&background, clients.effort, seen) else {
+    let Seen::Once(stand) = standing::queue_seen(&g.background, clients.effort, seen) else {
         return false;
     };
     let rooms = g.rooms;
@@ -188,11 +179,12 @@ pub fn sound(g: Gate) -> bool
         return false;
     }
     let fronts = firsts(lines);
-    let global = g.global;
-    if !global_sound(&global, queued(&s.homes, own, g.server, fronts)) {
+    let server = g.server;
+    let queue = queued(&s.homes, own, server, fronts);
+    if !global_sound(&g.global, queue) {
         return false;
     }
-    if !server_sound(clients, &s.homes, rooms, fronts, stand, g.server, g.units) {
+    if !server_sound(clients, &s.homes, rooms, fronts, stand, server, g.units) {
         return false;
     }
     if g.units > (s.cap as u32) {

@@ -125,7 +125,8 @@ module _ (v : Setup) (s : State) (h : Sound (setupOf v) s) where
     where
       each : (l : List ℕ) → firstIn (queued u s) (setIn (s .global)) l ≡ true
       each [] = refl
-      each (x ∷ l) = rw (set-has (s .global) (fits .queues .global .fits .used) x, h .global x) (not-or-self (queued u s x))
+      each (x ∷ l) =
+          rw (set-has (s .global) (fits .queues .global .fits .used) x, h .global x) (not-or-self (queued u s x))
 
   -- THE SERVER
 

@@ -1,4 +1,4 @@
--- A setup's clients as sets, loops over places, one number everywhere, lines and queues; and who is seen in them. Assumes nothing.
+-- A setup's clients as sets; loops over places, lines and queues, and who is seen in them. Assumes nothing.
 pub mod Sets
 pub mod Turns
 pub mod Queues

@@ -16,6 +16,12 @@ use Rattle.sets.proofs.Laws.{member-setOf, setOf-upd, setOf-same, setOf-none}
 use Rattle.soundness.specs.Tests.{every, distinct, setIn}
 use Rattle.standing.specs.Answers.{seenFrom}
 
+pub flip : (a b : ℕ) → eqb a b ≡ eqb b a
+flip a b =
+    by-test (eqb a b)
+    (λ e. e ∙ sym (eq-eqb b a (sym (eqb-true a b e))))
+    (λ e. e ∙ sym (ne-eqb b a (λ q. eqb-false a b e (sym q))))
+
 -- what is seen of a list goes on with what is seen next
 abbrev pub andThen : Option ℕ → (ℕ → Option ℕ) → Option ℕ
 andThen none f = none
@@ -63,14 +69,8 @@ seen-after p (x ∷ l) h =
     same false true c = refl
     same false false c = refl
 
-    flip : (c : ℕ) → eqb c x ≡ eqb x c
-    flip c =
-        by-test (eqb c x)
-        (λ e. e ∙ sym (eq-eqb x c (sym (eqb-true c x e))))
-        (λ e. e ∙ sym (ne-eqb x c (λ q. eqb-false c x e (sym q))))
-
     moved : (c : ℕ) → upd p x true c || has c l ≡ p c || (eqb x c || has c l)
-    moved c = rw (flip c) (go (eqb x c) (p c) (has c l))
+    moved c = rw (flip c x) (go (eqb x c) (p c) (has c l))
       where
         go : (a b d : Bool) → cond a true b || d ≡ b || (a || d)
         go true true d = refl

@@ -16,7 +16,7 @@ use Rattle.sets.proofs.Laws.{setOf-upd, setOf-none}
 use Rattle.gate.specs.Shown.{showRooms, table}
 use Rattle.gate.proofs.Parts.{room-put}
 use Rattle.gate.proofs.Tables.{table-same}
-use Rattle.standing.specs.Answers.{realBelow, clientsOf}
+use Rattle.standing.specs.Answers.{setsOf}
 use Rattle.standing.specs.declared.Clients.{Clients}
 
 pub same-clients : {a b : Clients} → a .own ≡ b .own → a .real ≡ b .real → a .effort ≡ b .effort → a ≡ b
@@ -71,6 +71,6 @@ module _ (p : ℕ → Bool) where
       own-stays e = ap (showRooms home) (stays e)
 
 pub no-clients : (kinds homes : List ℕ)
-    → _≡_ {A = Clients} (record { own = table maxClusters (λ k. 0); real = 0; effort = 0 }) (clientsOf kinds homes 0)
+    → _≡_ {A = Clients} (record { own = table maxClusters (λ k. 0); real = 0; effort = 0 }) (setsOf kinds homes 0)
 no-clients kinds homes = same-clients (sym (table-same maxClusters _ _ (λ k b.
     setOf-none maxClients _ (λ x l. rw (le-ltb x 0 (omega arith)))))) (sym (nobody _)) (sym (nobody _))

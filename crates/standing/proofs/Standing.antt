@@ -2,7 +2,7 @@
 -- Assumes nothing.
 use Prim.Native.Nat.{ℕ, _≤_, _<_}
 use mathlib.Core.Path.{_≡_, refl, sym, _∙_}
-use mathlib.Core.Bool.{true}
+use mathlib.Core.Bool.{true, cond}
 use mathlib.Core.List.{List}
 use mathlib.Core.Option.{Option, some, none}
 use native.Mathlib.Omega.{arith}
@@ -15,12 +15,12 @@ use Rattle.rules.proofs.Tests.{by-test, both-true, either-true}
 use Rattle.rules.proofs.Lists.{has-append}
 use Rattle.places.specs.Places.{unpad}
 use Rattle.gate.specs.declared.Line.{Line}
-use Rattle.soundness.specs.Tests.{every, joined}
+use Rattle.soundness.specs.Tests.{every, joined, setIn}
 use Rattle.soundness.specs.Clauses.{laid, everyone, ofBackground, linesSound, backgroundSound, standSound}
 use Rattle.soundness.proofs.Tests.{every-has}
 use Rattle.soundness.proofs.Joined.{joined-has}
 use Rattle.soundness.proofs.Facts.{lines-facts}
-use Rattle.standing.specs.Answers.{linesIn, seenFrom, seenIf, standing}
+use Rattle.standing.specs.Answers.{linesIn, seenFrom, seenIf}
 use Rattle.standing.proofs.Once.{andThen, seen-append, seen-once}
 
 then-none : (o : Option ℕ) → andThen o (λ (t : ℕ). none) ≡ none
@@ -43,9 +43,10 @@ module _ (u : rules.Setup) (few : u .clients ≤ maxClients) where
 
   -- the lines, and then the background queue
   pub standing-is : (ls : List Line) (q : List ℕ)
-      → standing u ls q ≡ andThen (seenIf (linesSound u ls) 0 (joined (linesIn ls) 0 maxClusters))
+      → let all = everyone (linesIn ls) (unpad q) in cond (standSound u ls q all) (some (setIn all)) none
+      ≡ andThen (seenIf (linesSound u ls) 0 (joined (linesIn ls) 0 maxClusters))
       (λ (t : ℕ). seenIf (backgroundSound u q) t (unpad q))
-  unfolding standing standSound
+  unfolding standSound
   standing-is ls q =
       by-test (linesSound u ls)
       (λ e. by-test (backgroundSound u q)

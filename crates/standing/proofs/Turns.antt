@@ -1,56 +1,59 @@
 -- One turn of the loops over places that must all hold one number, and of those that count up to a bound.
 -- Assumes nothing.
-use Prim.Native.Nat.{ℕ, suc, _+_, _≤_, _<_}
-use mathlib.Core.Path.{_≡_, refl, sym, _∙_}
-use mathlib.Core.Bool.{Bool, true, false, _&&_}
+use Prim.Native.Nat.{ℕ, _+_, _≤_, _<_}
+use mathlib.Core.Path.{_≡_, refl}
+use mathlib.Core.Bool.{Bool, true, false}
 use mathlib.Core.List.{List, [], _∷_}
 use native.Mathlib.Numerals.{add-one}
 use native.Mathlib.Omega.{arith}
-use lib.Dec.{eqb}
 use lib.ListN.{length, getD, drop, drop-of-length-le}
 use lib.Seq.{drop-cons}
 use borrow.Author.Tests.{eq-eqb, ne-eqb}
 use Rattle.rules.specs.Limits.{unusedPlace}
 use Rattle.rules.proofs.Tests.{clash, not-so}
 use Rattle.places.specs.Places.{blank}
+use Rattle.gate.specs.declared.Setup.{Setup}
 use Rattle.soundness.specs.Tests.{every, allBelow, zeros}
+use Rattle.soundness.specs.Clauses.{isTrimmed}
 use Rattle.soundness.proofs.Tests.{all-at}
-use Rattle.standing.specs.Answers.{holdsOnly}
+use Rattle.standing.specs.Answers.{holdsOnly, trimmed}
 
 -- ONE NUMBER EVERYWHERE
 
--- a test that holds of a list if y stands everywhere in it
-pub record Everywhere (y : ℕ) (test : List ℕ → Bool) : Type 0 where
-  pub none : test [] ≡ true
-  pub more : (x : ℕ) (l : List ℕ) → test (x ∷ l) ≡ eqb x y && test l
+pub zeros-is : (l : List ℕ) → holdsOnly 0 l ≡ zeros l
+unfolding every zeros
+zeros-is [] = refl
+zeros-is (x ∷ l) = rw (zeros-is l)
 
-pub only-test : (x : ℕ) → Everywhere x (holdsOnly x)
-unfolding every
-only-test x = record { none = refl; more = λ y l. refl }
+pub trimmed-is : (v : Setup)
+    → trimmed (v .sizes) (v .kinds) (v .homes) (v .priorities) (v .clusters) (v .clients) ≡ isTrimmed v
+unfolding isTrimmed
+trimmed-is v =
+    let n = v .clients in
+    rw (
+      zeros-is (drop (v .clusters) (v .sizes)),
+      zeros-is (drop n (v .kinds)),
+      zeros-is (drop n (v .homes)),
+      zeros-is (drop n (v .priorities)),
+    )
 
-pub zeros-test : Everywhere 0 zeros
-unfolding zeros
-zeros-test = record { none = refl; more = λ x l. refl }
+pub blank-is : (l : List ℕ) → holdsOnly unusedPlace l ≡ blank l
+unfolding every blank
+blank-is [] = refl
+blank-is (x ∷ l) = rw (blank-is l)
 
-pub blank-test : Everywhere unusedPlace blank
-unfolding blank
-blank-test = record { none = refl; more = λ x l. refl }
+module _ (y : ℕ) (q : List ℕ) (i : ℕ) where
+  pub same-turn : i < length q → getD q i 0 ≡ y → holdsOnly y (drop i q) ≡ holdsOnly y (drop (i + 1) q)
+  unfolding every
+  same-turn b e = rw (add-one, drop-cons q i 0, eq-eqb (getD q i 0) y e)
 
--- such a test of the same number answers the same
-pub only-is : (y : ℕ) (test : List ℕ → Bool) → Everywhere y test → (l : List ℕ) → holdsOnly y l ≡ test l
-only-is y test h [] = only-test y .none ∙ sym (h .none)
-only-is y test h (x ∷ l) = rw (only-test y .more x l, h .more x l, only-is y test h l)
+  pub same-stop : i < length q → (getD q i 0 ≡ y → ⊥) → holdsOnly y (drop i q) ≡ false
+  unfolding every
+  same-stop b e = rw (drop-cons q i 0, ne-eqb (getD q i 0) y e)
 
-module _ (y : ℕ) (test : List ℕ → Bool) (h : Everywhere y test) (q : List ℕ) (i : ℕ) where
-  pub same-turn : i < length q → getD q i 0 ≡ y → test (drop i q) ≡ test (drop (i + 1) q)
-  same-turn b e =
-      rw (add-one, drop-cons q i 0, h .more (getD q i 0) (drop (suc i) q), eq-eqb (getD q i 0) y e)
-
-  pub same-stop : i < length q → (getD q i 0 ≡ y → ⊥) → test (drop i q) ≡ false
-  same-stop b e = rw (drop-cons q i 0, h .more (getD q i 0) (drop (suc i) q), ne-eqb (getD q i 0) y e)
-
-  pub same-end : length q ≤ i → test (drop i q) ≡ true
-  same-end b = rw (drop-of-length-le q {i = i} b) (h .none)
+  pub same-end : length q ≤ i → holdsOnly y (drop i q) ≡ true
+  unfolding every
+  same-end b = rw (drop-of-length-le q {i = i} b)
 
 -- ALL BELOW
 

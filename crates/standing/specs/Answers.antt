@@ -7,13 +7,12 @@ use mathlib.Core.Option.{Option, some, none}
 use lib.Dec.{eqb, ltb, leb}
 use lib.ListN.{length, getD, drop}
 use Rattle.rules.specs.Limits.{maxClusters, maxSize, maxClients}
-use Rattle.rules.specs.Setup as rules
 use Rattle.sets.specs.Sets.{member, setOf, withOf}
 use Rattle.places.specs.Places.{unpad, usedFirst}
 use Rattle.gate.specs.declared.Line.{Line}
 use Rattle.gate.specs.Shown.{blankLine, showRooms}
-use Rattle.soundness.specs.Tests.{every, allBelow, zeros, joined, setIn}
-use Rattle.soundness.specs.Clauses.{laid, everyone, standSound}
+use Rattle.soundness.specs.Tests.{every, allBelow, joined}
+use Rattle.soundness.specs.Clauses.{laid}
 use Rattle.standing.specs.declared.Clients.{Clients}
 use Rattle.standing.specs.declared.Seen.{Seen}
 use Rattle.standing.specs.declared.Seen.the-variants.{Unsound, Once}
@@ -25,7 +24,8 @@ holdsOnly x l = every (λ (y : ℕ). eqb y x) l
 -- sizes past K and rows past N are zero
 abbrev pub trimmed : List ℕ → List ℕ → List ℕ → List ℕ → ℕ → ℕ → Bool
 trimmed sizes kinds homes priorities k n =
-    zeros (drop k sizes) && (zeros (drop n kinds) && (zeros (drop n homes) && zeros (drop n priorities)))
+    holdsOnly 0 (drop k sizes)
+    && (holdsOnly 0 (drop n kinds) && (holdsOnly 0 (drop n homes) && holdsOnly 0 (drop n priorities)))
 
 -- CLIENTS
 
@@ -37,8 +37,8 @@ module _ (kinds : List ℕ) (n c : ℕ) where
   abbrev pub effortBelow : Bool
   effortBelow = ltb c n && not (eqb (getD kinds c 0) 0)
 
-abbrev pub clientsOf : List ℕ → List ℕ → ℕ → Clients
-clientsOf kinds homes n = record {
+abbrev pub setsOf : List ℕ → List ℕ → ℕ → Clients
+setsOf kinds homes n = record {
   own = showRooms (λ (c : ℕ). getD homes c 0) (realBelow kinds n);
   real = setOf maxClients (realBelow kinds n);
   effort = setOf maxClients (effortBelow kinds n);
@@ -84,8 +84,3 @@ linesSeen sizes own ls =
 -- the set s with those in a queue, each of whom passes the test
 unfoldable pub queueSeen : (ℕ → Bool) → List ℕ → ℕ → Option ℕ
 queueSeen p q s = seenIf (usedFirst q && every p (unpad q)) s (unpad q)
-
--- the set of everyone in a line or the background queue, if all is sound there
-unfoldable pub standing : rules.Setup → List Line → List ℕ → Option ℕ
-standing u ls q =
-    cond (standSound u ls q (everyone (linesIn ls) (unpad q))) (some (setIn (everyone (linesIn ls) (unpad q)))) none

@@ -5,15 +5,14 @@ use gate::Line;
 use gate::Setup;
 ghost use mathlib.Core.Path.{_≡_};
 ghost use mathlib.Core.Bool.{_&&_};
-ghost use Prim.Native.Nat.{ℕ, _+_, _≤_, _<_};
+ghost use Prim.Native.Nat.{_+_, _≤_, _<_};
 ghost use lib.Dec.{ltb};
 ghost use lib.ListN.{getD, drop};
 ghost use Rattle.rules.specs.Limits.{maxClusters, maxClients};
 ghost use Rattle.sets.specs.Sets.{member};
-ghost use Rattle.places.specs.Places.{blank};
-ghost use Rattle.soundness.specs.Tests.{zeros};
+ghost use Rattle.gate.specs.Shows.{Homes};
 ghost use Rattle.soundness.specs.Clauses.{setupSound};
-ghost use Rattle.standing.specs.Answers.{holdsOnly, trimmed, clientsOf, seenOf, linesSeen, queueSeen};
+ghost use Rattle.standing.specs.Answers.{holdsOnly, trimmed, setsOf, seenOf, linesSeen, queueSeen};
 
 // A setup's clients as sets: the real-time clients of each cluster, all of them, and the best-effort clients.
 pub struct Clients {
@@ -44,16 +43,9 @@ fn holds_only_from(q: &[u8], from: usize, x: u8) -> bool
     true
 }
 
-// Nothing but zeros from one on.
-fn zeros_from(q: &[u8], from: usize) -> bool
-    ensures { λ r. ⌜ r ≡ zeros (drop from (now (q .entry))) ⌝ }
-{
-    holds_only_from(q, from, 0)
-}
-
-// The same of priorities.
+// The same of priorities, and 0.
 fn zero_priorities_from(q: &[u16], from: usize) -> bool
-    ensures { λ r. ⌜ r ≡ zeros (drop from (now (q .entry))) ⌝ }
+    ensures { λ r. ⌜ r ≡ holdsOnly 0 (drop from (now (q .entry))) ⌝ }
 {
     let mut i = from;
     while i < q.len() {
@@ -74,15 +66,16 @@ fn is_trimmed<'a>(
     k: usize,
     n: usize,
 ) -> bool
-    ensures { λ r. ⌜ r ≡ trimmed (now (sizes .entry)) (now (kinds .entry)) (now (homes .entry)) (now (priorities .entry)) k n ⌝ }
+    ensures { λ r.
+        ⌜ r ≡ trimmed (now (sizes .entry)) (now (kinds .entry)) (now (homes .entry)) (now (priorities .entry)) k n ⌝ }
 {
-    if !zeros_from(sizes, k) {
+    if !holds_only_from(sizes, k, 0) {
         return false;
     }
-    if !zeros_from(kinds, n) {
+    if !holds_only_from(kinds, n, 0) {
         return false;
     }
-    if !zeros_from(homes, n) {
+    if !holds_only_from(homes, n, 0) {
         return false;
     }
     zero_priorities_from(priorities, n)
@@ -108,11 +101,11 @@ pub fn setup_sound(s: Setup) -> bool
 // ITS CLIENTS
 
 // The clients below c, with c.
-fn with_client(kinds: &[u8; 64], homes: &[u8; 64], below: Clients, c: usize) -> Clients
-    requires { ⌜ (c < maxClients) × (getD (now homes) c 0 < maxClusters) × (below ≡ clientsOf (now kinds) (now homes) c) ⌝ }
-    ensures { λ r. ⌜ r ≡ clientsOf (now (kinds .entry)) (now (homes .entry)) (c + 1) ⌝ }
+fn with_client(kinds: &[u8; 64], homes: &[u8; 64], all: Clients, c: usize) -> Clients
+    requires { ⌜ (c < maxClients) × (getD (now homes) c 0 < maxClusters) × (all ≡ setsOf (now kinds) (now homes) c) ⌝ }
+    ensures { λ r. ⌜ r ≡ setsOf (now (kinds .entry)) (now (homes .entry)) (c + 1) ⌝ }
 {
-    let mut next = below;
+    let mut next = all;
     if kinds[c] != 0 {
         next.effort = sets::with(next.effort, c);
         return next;
@@ -125,8 +118,8 @@ fn with_client(kinds: &[u8; 64], homes: &[u8; 64], below: Clients, c: usize) -> 
 
 // The clients below n: one pass over their rows.
 pub fn clients_below<'a>(kinds: &'a [u8; 64], homes: &'a [u8; 64], n: usize) -> Clients
-    requires { ⌜ (n ≤ maxClients) × ((c : ℕ) → getD (now homes) c 0 < maxClusters) ⌝ }
-    ensures { λ r. ⌜ r ≡ clientsOf (now (kinds .entry)) (now (homes .entry)) n ⌝ }
+    requires { ⌜ (n ≤ maxClients) × Homes (now homes) ⌝ }
+    ensures { λ r. ⌜ r ≡ setsOf (now (kinds .entry)) (now (homes .entry)) n ⌝ }
 {
     let mut all = Clients {
         own: [0; 8],
@@ -142,13 +135,6 @@ pub fn clients_below<'a>(kinds: &'a [u8; 64], homes: &'a [u8; 64], n: usize) -> 
 }
 
 // LINES AND QUEUES
-
-// Nothing but unused places from one on.
-fn blank_from(q: &[u8], from: usize) -> bool
-    ensures { λ r. ⌜ r ≡ blank (drop from (now (q .entry))) ⌝ }
-{
-    holds_only_from(q, from, places::UNUSED)
-}
 
 // Client c may stand at a place of a line of m, whose cluster's clients are given.
 fn may_stand(m: usize, own: u64, at: usize, c: usize) -> bool
@@ -189,7 +175,7 @@ pub fn lines_seen(sizes: &[u8; 8], own: [u64; 8], lines: [Line; 8]) -> Seen
             seen = sets::with(seen, c);
             j += 1;
         }
-        if !blank_from(&q, j) {
+        if !holds_only_from(&q, j, places::UNUSED) {
             break 'lines;
         }
         k += 1;
@@ -217,7 +203,7 @@ pub fn queue_seen(q: &[u8], known: u64, others: u64) -> Seen
         everyone = sets::with(everyone, c);
         i += 1;
     }
-    if !blank_from(q, i) {
+    if !holds_only_from(q, i, places::UNUSED) {
         return Seen::Unsound;
     }
     Seen::Once(everyone)

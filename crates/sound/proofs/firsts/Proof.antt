@@ -1,11 +1,10 @@
 -- `sound::firsts` meets its contract: the loop holds the fronts of the lines passed.
 -- Assumes nothing.
-use Prim.Native.Nat.{ℕ, _-_, _≤_}
+use Prim.Native.Nat.{_-_, _≤_}
 use mathlib.Core.Path.{_≡_, sym, ap, _∙_}
 use native.Mathlib.Omega.{arith}
 use borrow.Author.Needs.{needs}
 use Rattle.rules.specs.Limits.{maxClusters}
-use Rattle.sets.specs.Sets.{withOf}
 use Rattle.sound.specs.Answers.{firstsOf}
 use Rattle.sound.proofs.Fronts.{firsts-none, firsts-more}
 use Rattle.sound.proofs.firsts.Statement.{statement}

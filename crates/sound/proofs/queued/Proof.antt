@@ -73,7 +73,8 @@ returns-3 c =
       k .cluster-of .ensures,
       i .index .ensures,
       i .before .served .ensures,
-      as-spent (serverOf (i .before .before .args .server)) (sym (s .as-spent .ensures) ∙ not-false _ (k .before .if2 .left)),
+      as-spent (serverOf (i .before .before .args .server))
+          (sym (s .as-spent .ensures) ∙ not-false _ (k .before .if2 .left)),
     )
 
 pub queued-spec : {M : Type 1} → statement M

@@ -4,6 +4,7 @@ use Prim.Native.Nat.{_<_}
 use mathlib.Core.Path.{sym, _∙_}
 use native.Mathlib.Omega.{arith}
 use borrow.Author.Needs.{needs}
+use borrow.Author.Tests.{eq-eqb, ne-eqb}
 use Rattle.rules.specs.Limits.{maxClusters}
 use Rattle.rows.proofs.Service.{as-front, as-spent}
 use Rattle.gate.specs.Shown.{serverOf}
@@ -14,14 +15,21 @@ use Rattle.sound.proofs.server_sound.Tie as tie
 is-idle-requires : tie.Need-is-idle-requires
 is-idle-requires c κs = search needs
 
-idle-sound-requires : tie.Need-idle-sound-requires
-idle-sound-requires c κs = search needs
-
 returns : tie.Need-returns
 returns c =
     let i = c .before .before in
-    rw (is-idle (serverOf (i .before .args .server)) (sym (i .is-idle .ensures) ∙ c .before .if1 .taken))
-    (c .idle-sound .ensures)
+    rw (
+      is-idle (serverOf (i .before .args .server)) (sym (i .is-idle .ensures) ∙ c .before .if1 .taken),
+      ne-eqb _ 0 (c .if2 .taken),
+    )
+
+returns-2 : tie.Need-returns-2
+returns-2 c =
+    let i = c .before .before in
+    rw (
+      is-idle (serverOf (i .before .args .server)) (sym (i .is-idle .ensures) ∙ c .before .if1 .taken),
+      eq-eqb _ 0 (c .if2 .left),
+    )
 
 served-requires : tie.Need-served-requires
 served-requires c κs = search needs
@@ -35,15 +43,16 @@ as-front-requires c κs = search needs
 member-requires : tie.Need-member-requires
 member-requires c κs = search needs
 
-returns-2 : tie.Need-returns-2
-returns-2 c =
+returns-3 : tie.Need-returns-3
+returns-3 c =
     let f = c .before .before in
     let s = f .before .before in
     rw (
       c .member .ensures,
       f .before .index .ensures,
       s .served .ensures,
-      as-front (serverOf (s .before .before .before .args .server)) (sym (f .as-front .ensures) ∙ c .before .if2 .taken),
+      as-front (serverOf (s .before .before .before .args .server))
+          (sym (f .as-front .ensures) ∙ c .before .if3 .taken),
     )
 
 as-spent-requires : tie.Need-as-spent-requires
@@ -78,8 +87,8 @@ less-requires-2 c κs = search needs
 member-requires-2 : tie.Need-member-requires-2
 member-requires-2 c κs = search needs
 
-returns-3 : tie.Need-returns-3
-returns-3 c =
+returns-4 : tie.Need-returns-4
+returns-4 c =
     let l = c .before .before in
     let k = l .before .before in
     let p = k .before .before in
@@ -92,7 +101,7 @@ returns-3 c =
       i .index .ensures,
       i .before .served .ensures,
       as-spent (serverOf (i .before .before .before .before .args .server))
-          (sym (p .as-spent .ensures) ∙ k .before .if3 .taken),
+          (sym (p .as-spent .ensures) ∙ k .before .if4 .taken),
     )
 
 less-requires-3 : tie.Need-less-requires-3
@@ -101,8 +110,8 @@ less-requires-3 c κs = search needs
 member-requires-3 : tie.Need-member-requires-3
 member-requires-3 c κs = search needs
 
-returns-4 : tie.Need-returns-4
-returns-4 c =
+returns-5 : tie.Need-returns-5
+returns-5 c =
     let p = c .before .before .before in
     let f = p .before .before in
     let s = f .before .before in
@@ -113,8 +122,8 @@ returns-4 c =
       f .before .index .ensures,
       s .served .ensures,
       is-best (serverOf (i .before .args .server)) (sym (i .is-idle .ensures) ∙ s .before .if1 .left)
-          (sym (f .as-front .ensures) ∙ p .before .if2 .left)
-          (sym (p .as-spent .ensures) ∙ c .before .before .if3 .left),
+          (sym (f .as-front .ensures) ∙ p .before .if3 .left)
+          (sym (p .as-spent .ensures) ∙ c .before .before .if4 .left),
     )
 
 pub server-sound-spec : {M : Type 1} → statement M
@@ -122,13 +131,13 @@ server-sound-spec =
     tie.close
     (tie.spec
     is-idle-requires
-    idle-sound-requires
     returns
+    returns-2
     served-requires
     index-requires
     as-front-requires
     member-requires
-    returns-2
+    returns-3
     as-spent-requires
     cluster-of-requires
     mul-less
@@ -138,7 +147,7 @@ server-sound-spec =
     array-read-less
     less-requires-2
     member-requires-2
-    returns-3
+    returns-4
     less-requires-3
     member-requires-3
-    returns-4)
+    returns-5)

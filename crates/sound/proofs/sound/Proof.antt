@@ -10,18 +10,14 @@ use lib.ListN.{length}
 use borrow.Author.Tests.{not-true, not-false, lt-leb, le-leb}
 use borrow.Author.Needs.{needs}
 use Rattle.rules.specs.Limits.{maxClusters, maxClients}
-use Rattle.sets.specs.Sets.{member}
 use Rattle.gate.specs.declared.Gate.{Gate}
 use Rattle.gate.specs.Shown.{serverOf}
 use Rattle.gate.specs.Shows.{Homes}
-use Rattle.soundness.specs.Clauses.{setupSound, restSound, soundOf}
+use Rattle.soundness.specs.Clauses.{setupSound, soundOf}
 use Rattle.standing.specs.Answers.{seenOf, linesSeen}
-use Rattle.standing.specs.declared.Clients.{Clients}
-use Rattle.standing.specs.declared.Seen.the-variants.{Once}
-use Rattle.standing.proofs.Once.{andThen}
 use Rattle.sound.specs.Answers.{firstsOf, queuedOf, serverFits, chargesFit}
 use Rattle.sound.proofs.Members.{clients}
-use Rattle.sound.proofs.Rest.{ok, fine, restFits, by-lines, by-queue, by-rest}
+use Rattle.sound.proofs.Rest.{passes, fails, ok, fine, restFits, by-lines, by-queue, by-rest}
 use Rattle.sound.proofs.sound.Statement.{statement}
 use Rattle.sound.proofs.sound.Tie as tie
 
@@ -62,7 +58,7 @@ homes-of c = record { rows = lengths (begun c) .homes; low = fine (given c) (set
 
 clients-below-requires : tie.Need-clients-below-requires
 clients-below-requires c κs =
-    let f = fine (given c) (setup-is c) in (omega (arith, c .wide .ensures, f .clients), f .homes)
+    (omega (arith, c .wide .ensures, fine (given c) (setup-is c) .clients), homes-of c)
 
 clients-are : (c : tie.After-clients-below)
     → c .clients-below .result ≡ clients (given (c .before) .setup) (fine (given (c .before)) (setup-is (c .before)))
@@ -87,9 +83,6 @@ returns-2 c =
     sym (by-lines (given w) (setup-is w) (lengths (begun w) .background) (k .clients-below .result) (clients-are k)
     (sym (ap seenOf (c .enum-told .given .1)) ∙ l .lines-seen .ensures))
 
-slice-aggregate-queue-seen : tie.Need-slice-aggregate-queue-seen
-slice-aggregate-queue-seen c = sym (lengths (begun (c .before .before .before .before .before .before .before .before .before .before .before)) .background)
-
 queue-seen-requires : tie.Need-queue-seen-requires
 queue-seen-requires c κs = search needs
 
@@ -99,15 +92,20 @@ enum-known-stand c = search needs
 enum-told-2 : tie.Need-enum-told-2
 enum-told-2 c = search needs
 
--- the clients, where everyone is seen
+-- the lines, and the clients, where everyone is seen
+abbrev lines-of : tie.After-queue-seen → tie.After-lines-seen
+lines-of c = c .before .before .before .before .before .before .before
+
 abbrev sets-of : tie.After-queue-seen → tie.After-clients-below
-sets-of c = c .before .before .before .before .before .before .before .before .before .before .before
+sets-of c = lines-of c .before .before .before .before .before
 
 lines-told : (c : tie.After-queue-seen)
-    → some (c .before .before .before .before .seen .given .0 .0)
-    ≡ linesSeen (given (sets-of c .before) .setup .sizes) (sets-of c .clients-below .result .own)
-    (given (sets-of c .before) .lines)
-lines-told c = sym (ap seenOf (c .before .before .before .before .seen .given .1)) ∙ c .before .before .before .before .before .before .lines-seen .ensures
+    → let k = sets-of c in
+    let g = given (k .before) in
+    some (c .before .before .before .before .before .seen .given .0 .0)
+    ≡ linesSeen (g .setup .sizes) (k .clients-below .result .own) (g .lines)
+lines-told c =
+    sym (ap seenOf (c .before .before .before .before .before .seen .given .1)) ∙ lines-of c .lines-seen .ensures
 
 returns-3 : tie.Need-returns-3
 returns-3 c =
@@ -119,8 +117,17 @@ returns-3 c =
 
 -- THE REST
 
-abbrev wide-of : tie.After-stand → tie.After-wide
-wide-of c = sets-of (c .before .before) .before
+abbrev stand-of : tie.Else2 → tie.After-stand
+stand-of c = c .before .before .before .before .before .before
+
+abbrev wide-of : tie.Else2 → tie.After-wide
+wide-of c = sets-of (stand-of c .before .before) .before
+
+abbrev rooms-of : tie.Else3 → tie.Else2
+rooms-of c = c .before .before .before .before .before .before .before .before .before
+
+abbrev global-of : tie.Else4 → tie.Else3
+global-of c = c .before .before .before .before
 
 by-sets : (c : tie.After-stand) {fronts queue : ℕ}
     → let k = sets-of (c .before .before) in
@@ -140,81 +147,74 @@ rooms-sound-requires c κs = search needs
 
 returns-4 : tie.Need-returns-4
 returns-4 c =
-    sym (by-sets (c .before .before .before .before .before .before) refl refl ∙ rw (sym (c .before .rooms-sound .ensures) ∙ not-true _ (c .if2 .taken)))
+    sym (by-sets (c .before .before .before .before .before .before) refl refl
+    ∙ fails (c .before .rooms-sound .ensures) (not-true _ (c .if2 .taken)) _)
 
 firsts-requires : tie.Need-firsts-requires
 firsts-requires c κs = search needs
 
-slice-aggregate-global-sound : tie.Need-slice-aggregate-global-sound
-slice-aggregate-global-sound c = sym (lengths (begun (wide-of (c .before .before .before .before .before .before .before .before .before))) .global)
-
 queued-requires : tie.Need-queued-requires
-queued-requires c κs = homes-of (wide-of (c .before .before .before .before .before .before .before .before .before .before .before))
+queued-requires c κs = homes-of (wide-of (c .before .before .before))
 
 global-sound-requires : tie.Need-global-sound-requires
 global-sound-requires c κs = search needs
 
 returns-5 : tie.Need-returns-5
 returns-5 c =
-    let q = c .before .before in
-    let f = q .before .before .before .before .before in
+    let q = c .before .before .before .before .before in
+    let f = q .before .before .before in
     let r = f .before in
-    sym (by-sets (r .before .before .before .before .before .before) (f .firsts .ensures) (q .queued .ensures)
-    ∙ rw (
-      sym (r .before .rooms-sound .ensures) ∙ not-false _ (r .if2 .left),
-      sym (c .before .global-sound .ensures) ∙ not-true _ (c .if3 .taken),
-    ))
+    sym (by-sets (stand-of r) (f .firsts .ensures) (q .queued .ensures)
+    ∙ passes (r .before .rooms-sound .ensures) (not-false _ (r .if2 .left))
+    ∙ fails (c .before .global-sound .ensures) (not-true _ (c .if3 .taken)) _)
 
 -- what is left to test then
 by-global : (c : tie.Else3)
-    → let f = c .before .before .before .before .before .before .before in
-    let d = f .before .before .before .before .before .before .before in
+    → let f = c .before .before .before .before .before .before .before .before in
+    let d = stand-of (f .before) in
     let k = sets-of (d .before .before) in
     let g = given (k .before) in
     soundOf g ≡ serverFits (k .clients-below .result) (g .setup .homes) (g .rooms) (f .firsts .result)
     (d .stand .given .0 .0) (g .units) (serverOf (g .server))
     && (leb (g .units) (g .setup .cap) && chargesFit (k .clients-below .result .real) (g .charges))
 by-global c =
-    let q = c .before .before in
-    let f = q .before .before .before .before .before in
+    let q = c .before .before .before .before .before in
+    let f = q .before .before .before in
     let r = f .before in
-    by-sets (r .before .before .before .before .before .before) (f .firsts .ensures) (q .queued .ensures)
-    ∙ rw (
-      sym (r .before .rooms-sound .ensures) ∙ not-false _ (r .if2 .left),
-      sym (c .before .global-sound .ensures) ∙ not-false _ (c .if3 .left),
-    )
+    by-sets (stand-of r) (f .firsts .ensures) (q .queued .ensures)
+    ∙ passes (r .before .rooms-sound .ensures) (not-false _ (r .if2 .left))
+    ∙ passes (c .before .global-sound .ensures) (not-false _ (c .if3 .left))
 
 server-sound-requires : tie.Need-server-sound-requires
-server-sound-requires c κs = homes-of (wide-of (c .before .before .before .before .before .before .before .before .before .before .before .before .before .before .before .before))
+server-sound-requires c κs = homes-of (wide-of (rooms-of (c .before .before)))
 
 returns-6 : tie.Need-returns-6
 returns-6 c =
-    sym (by-global (c .before .before .before .before) ∙ rw (sym (c .before .server-sound .ensures) ∙ not-true _ (c .if4 .taken)))
+    sym (by-global (c .before .before .before .before)
+    ∙ fails (c .before .server-sound .ensures) (not-true _ (c .if4 .taken)) _)
 
 cast-if5 : tie.Need-cast-if5
 cast-if5 c =
-    let w = wide-of (c .before .before .before .before .before .before .before .before .before .before .before .before .before .before .before .before .before .before) in
+    let w = wide-of (rooms-of (global-of c)) in
     record { fits = omega (arith, ok (given w) (setup-is w) .small-cap) }
 
 returns-7 : tie.Need-returns-7
 returns-7 c =
     let v = c .before in
-    sym (by-global (v .before .before .before .before)
-    ∙ rw (sym (v .before .server-sound .ensures) ∙ not-false _ (v .if4 .left), lt-leb _ _ (c .if5 .taken)))
+    sym (by-global (global-of v)
+    ∙ passes (v .before .server-sound .ensures) (not-false _ (v .if4 .left))
+    ∙ fails refl (lt-leb _ _ (c .if5 .taken)) _)
 
 charges-sound-requires : tie.Need-charges-sound-requires
-charges-sound-requires c κs = lengths (begun (wide-of (c .before .before .before .before .before .before .before .before .before .before .before .before .before .before .before .before .before .before .before .before .before))) .charges
+charges-sound-requires c κs = lengths (begun (wide-of (rooms-of (global-of (c .before .before .before))))) .charges
 
 returns-8 : tie.Need-returns-8
 returns-8 c =
     let n = c .before .before .before in
     let v = n .before in
-    sym (by-global (v .before .before .before .before)
-    ∙ rw (
-      sym (v .before .server-sound .ensures) ∙ not-false _ (v .if4 .left),
-      le-leb _ _ (n .if5 .left),
-      c .charges-sound .ensures,
-    ))
+    sym (by-global (global-of v)
+    ∙ passes (v .before .server-sound .ensures) (not-false _ (v .if4 .left)) ∙ passes refl (le-leb _ _ (n .if5 .left))
+    ∙ sym (c .charges-sound .ensures))
 
 pub sound-spec : {M : Type 1} → statement M
 sound-spec =
@@ -228,7 +228,6 @@ sound-spec =
     enum-known-seen
     enum-told
     returns-2
-    slice-aggregate-queue-seen
     queue-seen-requires
     enum-known-stand
     enum-told-2
@@ -236,7 +235,6 @@ sound-spec =
     rooms-sound-requires
     returns-4
     firsts-requires
-    slice-aggregate-global-sound
     queued-requires
     global-sound-requires
     returns-5

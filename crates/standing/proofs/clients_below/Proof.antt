@@ -1,19 +1,17 @@
 -- `standing::clients_below` meets its contract: the loop holds the clients passed.
 -- Assumes nothing.
-use Prim.Native.Nat.{ℕ, _-_, _≤_, _<_}
+use Prim.Native.Nat.{_-_, _≤_}
 use mathlib.Core.Path.{_≡_}
 use native.Mathlib.Omega.{arith}
-use lib.ListN.{getD}
-use borrow.Author.Needs.{needs}
-use Rattle.rules.specs.Limits.{maxClusters, maxClients}
+use Rattle.rules.specs.Limits.{maxClients}
 use Rattle.gate.specs.Shown.{table}
-use Rattle.standing.specs.Answers.{clientsOf}
+use Rattle.standing.specs.Answers.{setsOf}
 use Rattle.standing.proofs.Sets.{no-clients}
 use Rattle.standing.proofs.clients_below.Statement.{statement}
 use Rattle.standing.proofs.clients_below.Tie as tie
 
 abbrev Inv-loop : tie.InvT-loop
-Inv-loop kinds homes n all₀ c₀ all c = (c ≤ n) × (n ≤ maxClients) × (all ≡ clientsOf kinds homes c)
+Inv-loop kinds homes n all₀ c₀ all c = (c ≤ n) × (n ≤ maxClients) × (all ≡ setsOf kinds homes c)
 
 abbrev μ-loop : tie.MeasureT-loop
 μ-loop kinds homes n all₀ c₀ all c = n - c
@@ -25,7 +23,7 @@ loop-holds c = (omega arith, c .pre .0, no-clients (c .args .kinds .now) (c .arg
 with-client-requires : tie.Need-with-client-requires Inv-loop μ-loop
 with-client-requires c κs =
     let l = c .before .loop in
-    (omega arith, c .before .before .pre .1 (l .c), l .inv .2)
+    (omega arith, c .before .before .pre .1 .low (l .c), l .inv .2)
 
 add-c : tie.Need-add-c Inv-loop μ-loop
 add-c c = omega arith

@@ -5,7 +5,7 @@ use mathlib.Core.Path.{_≡_, refl, sym, _∙_}
 use native.Mathlib.Omega.{arith}
 use lib.ListN.{length, drop}
 use Rattle.standing.specs.Answers.{holdsOnly}
-use Rattle.standing.proofs.Turns.{only-test, same-turn, same-stop, same-end}
+use Rattle.standing.proofs.Turns.{same-turn, same-stop, same-end}
 use Rattle.standing.proofs.holds_only_from.Statement.{statement}
 use Rattle.standing.proofs.holds_only_from.Tie as tie
 
@@ -25,7 +25,7 @@ returns : tie.Need-returns Inv-loop μ-loop
 returns c =
     let o = c .before .before .before .loop in
     let a = c .before .before .before .before .args in
-    sym (same-stop (a .x) (holdsOnly (a .x)) (only-test (a .x)) (a .q .now) (o .i) (omega arith) (c .if1 .taken))
+    sym (same-stop (a .x) (a .q .now) (o .i) (omega arith) (c .if1 .taken))
     ∙ o .inv
 
 add-i : tie.Need-add-i Inv-loop μ-loop
@@ -38,14 +38,14 @@ loop-again : tie.Need-loop-again Inv-loop μ-loop
 loop-again c =
     let o = c .before .before .before .loop in
     let a = c .before .before .before .before .args in
-    sym (same-turn (a .x) (holdsOnly (a .x)) (only-test (a .x)) (a .q .now) (o .i) (omega arith) (c .if1 .left))
+    sym (same-turn (a .x) (a .q .now) (o .i) (omega arith) (c .if1 .left))
     ∙ o .inv
 
 returns-2 : tie.Need-returns-2 Inv-loop μ-loop
 returns-2 c =
     let o = c .before .loop in
     let a = c .before .before .args in
-    sym (same-end (a .x) (holdsOnly (a .x)) (only-test (a .x)) (a .q .now) (o .i) (omega arith)) ∙ o .inv
+    sym (same-end (a .x) (a .q .now) (o .i) (omega arith)) ∙ o .inv
 
 pub holds-only-from-spec : {M : Type 1} → statement M
 holds-only-from-spec =

@@ -6,34 +6,34 @@ use borrow.Author.Tests.{not-true, not-false}
 use Rattle.standing.proofs.is_trimmed.Statement.{statement}
 use Rattle.standing.proofs.is_trimmed.Tie as tie
 
-zeros-from-requires : tie.Need-zeros-from-requires
-zeros-from-requires c κs = search needs
+holds-only-from-requires : tie.Need-holds-only-from-requires
+holds-only-from-requires c κs = search needs
 
 returns : tie.Need-returns
-returns c = rw (sym (c .before .zeros-from .ensures) ∙ not-true _ (c .if1 .taken))
+returns c = rw (sym (c .before .holds-only-from .ensures) ∙ not-true _ (c .if1 .taken))
 
-zeros-from-requires-2 : tie.Need-zeros-from-requires-2
-zeros-from-requires-2 c κs = search needs
+holds-only-from-requires-2 : tie.Need-holds-only-from-requires-2
+holds-only-from-requires-2 c κs = search needs
 
 returns-2 : tie.Need-returns-2
 returns-2 c =
     let i = c .before .before .before in
     rw (
-      sym (i .before .zeros-from .ensures) ∙ not-false _ (i .if1 .left),
-      sym (c .before .zeros-from2 .ensures) ∙ not-true _ (c .if2 .taken),
+      sym (i .before .holds-only-from .ensures) ∙ not-false _ (i .if1 .left),
+      sym (c .before .holds-only-from2 .ensures) ∙ not-true _ (c .if2 .taken),
     )
 
-zeros-from-requires-3 : tie.Need-zeros-from-requires-3
-zeros-from-requires-3 c κs = search needs
+holds-only-from-requires-3 : tie.Need-holds-only-from-requires-3
+holds-only-from-requires-3 c κs = search needs
 
 returns-3 : tie.Need-returns-3
 returns-3 c =
     let j = c .before .before .before in
     let i = j .before .before .before in
     rw (
-      sym (i .before .zeros-from .ensures) ∙ not-false _ (i .if1 .left),
-      sym (j .before .zeros-from2 .ensures) ∙ not-false _ (j .if2 .left),
-      sym (c .before .zeros-from3 .ensures) ∙ not-true _ (c .if3 .taken),
+      sym (i .before .holds-only-from .ensures) ∙ not-false _ (i .if1 .left),
+      sym (j .before .holds-only-from2 .ensures) ∙ not-false _ (j .if2 .left),
+      sym (c .before .holds-only-from3 .ensures) ∙ not-true _ (c .if3 .taken),
     )
 
 zero-priorities-from-requires : tie.Need-zero-priorities-from-requires
@@ -45,20 +45,20 @@ returns-4 c =
     let j = h .before .before .before in
     let i = j .before .before .before in
     rw (
-      sym (i .before .zeros-from .ensures) ∙ not-false _ (i .if1 .left),
-      sym (j .before .zeros-from2 .ensures) ∙ not-false _ (j .if2 .left),
-      sym (h .before .zeros-from3 .ensures) ∙ not-false _ (h .if3 .left),
+      sym (i .before .holds-only-from .ensures) ∙ not-false _ (i .if1 .left),
+      sym (j .before .holds-only-from2 .ensures) ∙ not-false _ (j .if2 .left),
+      sym (h .before .holds-only-from3 .ensures) ∙ not-false _ (h .if3 .left),
     ) (c .zero-priorities-from .ensures)
 
 pub is-trimmed-spec : {M : Type 1} → statement M
 is-trimmed-spec =
     tie.close
     (tie.spec
-    zeros-from-requires
+    holds-only-from-requires
     returns
-    zeros-from-requires-2
+    holds-only-from-requires-2
     returns-2
-    zeros-from-requires-3
+    holds-only-from-requires-3
     returns-3
     zero-priorities-from-requires
     returns-4)

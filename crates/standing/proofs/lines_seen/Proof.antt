@@ -1,5 +1,4 @@
--- `standing::lines_seen` meets its contract: the lines passed are sound, and who is seen from here on is who is seen
--- in all.
+-- `standing::lines_seen` meets its contract: lines passed are sound; who is seen from here on is who is seen in all.
 -- Assumes nothing.
 use Prim.Native.Nat.{ℕ, _+_, _-_, _≤_, _<_}
 use mathlib.Core.Path.{_≡_, refl, sym, ap, _∙_}
@@ -10,12 +9,12 @@ use native.Mathlib.Omega.{arith}
 use lib.ListN.{length, getD, drop}
 use borrow.Author.Needs.{needs}
 use borrow.Author.Tests.{not-true, not-false}
-use Rattle.rules.specs.Limits.{maxClusters, maxSize}
+use Rattle.rules.specs.Limits.{maxClusters, maxSize, unusedPlace}
 use Rattle.sets.specs.Sets.{member}
-use Rattle.places.specs.Places.{unpad, blank}
+use Rattle.places.specs.Places.{unpad}
 use Rattle.gate.specs.Shown.{blankLine}
 use Rattle.soundness.specs.Tests.{allBelow, joined}
-use Rattle.standing.specs.Answers.{linesIn, lineFits, seenFrom}
+use Rattle.standing.specs.Answers.{holdsOnly, linesIn, lineFits, seenFrom}
 use Rattle.standing.proofs.Shape.{lines-length, lines-each}
 use Rattle.standing.proofs.Turns.{all-none, all-more, all-done}
 use Rattle.standing.proofs.Queues.{Ended, ended-here, ended-past, lineRest, line-start, line-turn, line-bad}
@@ -52,9 +51,8 @@ unfolding seenFrom
 returns c =
     let o = c .before .lines in
     let a = c .before .before .args in
-    let all = all-done maxClusters (o .k) (fits (a .sizes .now) (a .t2) (a .t3)) (omega arith) (omega arith)
-    (o .inv .2) in
-    sym (lines-pass (a .sizes .now) (a .t2) (a .t3) (o .seen) (o .inv .1) all
+    sym (lines-pass (a .sizes .now) (a .t2) (a .t3) (o .seen) (o .inv .1)
+    (all-done maxClusters (o .k) (fits (a .sizes .now) (a .t2) (a .t3)) (omega arith) (omega arith) (o .inv .2))
     (sym (o .inv .3) ∙ rw (joined-end (linesIn (a .t3)) (o .k) maxClusters (omega arith))))
 
 element-copy-out-wide : tie.Need-element-copy-out-wide Inv-places μ-places Inv-lines μ-lines
@@ -81,10 +79,9 @@ places-holds c =
     let p = w .before .before .before in
     let o = p .lines in
     let a = p .before .args in
-    let b : o .k < length (a .t3) = omega (arith, o .inv .1) in
     let q = getD (a .t3) (o .k) blankLine .places in
     let known = member (getD (a .t2) (o .k) 0) in
-    let n = lines-each (a .t3) 8 _ (p .before .good .1 .1 .0) (o .k) blankLine b in (
+    let n = lines-each (a .t3) 8 _ (p .before .good .1 .1 .0) (o .k) blankLine (omega (arith, o .inv .1)) in (
       omega arith,
       omega arith,
       n,
@@ -124,24 +121,23 @@ places-again c =
     let r = o .before .before .before in
     let p = r .before .before .before in
     let a = p .before .args in
-    let q = getD (a .t3) (p .lines .k) blankLine .places in
     let m = r .wide .result in
     let known = member (getD (a .t2) (p .lines .k) 0) in
     let i = o .places in
+    let q = getD (a .t3) (p .lines .k) blankLine .places in
     let b : i .j < length q = omega (arith, i .inv .2) in
     let stand = sym (d .before .before .may-stand .ensures) ∙ not-false _ (d .before .if3 .left) in (
       omega arith,
       omega (arith, stands-below (i .j) m _ stand),
       i .inv .2,
-      sym (line-turn m known q (i .j) (w .wide2 .result) b (w .wide2 .ensures) (w .before .if2 .left) stand)
-          ∙ i .inv .3,
+      sym (line-turn m known q (w .wide2 .ensures) b (w .before .if2 .left) stand) ∙ i .inv .3,
       rw (c .with .ensures)
-          (sym (stands-new m known q (i .j) (w .wide2 .result) b (w .wide2 .ensures)
-          (w .before .if2 .left) (i .seen) _ (sym (d .member .ensures) ∙ c .before .if4 .left))
+          (sym (stands-new q (w .wide2 .ensures) b (w .before .if2 .left) (i .seen) _
+          (sym (d .member .ensures) ∙ c .before .if4 .left))
           ∙ i .inv .4),
     )
 
--- what is left of a line where its loop is left, by either way: nobody
+-- where the loop of a line is left, by either way, nobody is left to see
 abbrev left : tie.Left-places Inv-places μ-places Inv-lines μ-lines → List ℕ
 left c =
     let p = c .before .before .before .before .before .before .before in
@@ -150,29 +146,22 @@ left c =
 line-ended : (c : tie.Left-places Inv-places μ-places Inv-lines μ-lines) → Ended (left c)
 line-ended c =
     let i = c .before .places in
-    let p = c .before .before .before .before .before .before .before in
-    let q = getD (p .before .args .t3) (p .lines .k) blankLine .places in
-    ⊎-elim (λ w. ended-past q (i .j) (omega (arith, i .inv .2)))
-    (λ w. ended-here q (i .j) (omega (arith, i .inv .2)) (w .1 .taken)) (c .places-test .came)
+    ⊎-elim (λ w. ended-past _ (i .j) (omega (arith, i .inv .2)))
+    (λ w. ended-here _ (i .j) (omega (arith, i .inv .2)) (w .1 .taken)) (c .places-test .came)
 
--- the line is sound if nothing is left there but unused places
 line-rest : (c : tie.Left-places Inv-places μ-places Inv-lines μ-lines)
     → let p = c .before .before .before .before .before .before .before in
-    fits (p .before .args .sizes .now) (p .before .args .t2) (p .before .args .t3) (p .lines .k) ≡ blank (left c)
+    fits (p .before .args .sizes .now) (p .before .args .t2) (p .before .args .t3) (p .lines .k)
+    ≡ holdsOnly unusedPlace (left c)
 line-rest c =
-    let i = c .before .places in
-    let r = c .before .before .before .before in
-    let p = r .before .before .before in
-    sym (i .inv .3)
-    ∙ line-end (r .wide .result) (member (getD (p .before .args .t2) (p .lines .k) 0)) (left c) (i .j) (i .inv .1)
-    (line-ended c)
+    let i = c .before .places in sym (i .inv .3) ∙ line-end _ _ (left c) (i .j) (i .inv .1) (line-ended c)
 
-slice-aggregate-blank-from :
-    tie.Need-slice-aggregate-blank-from Inv-places μ-places Inv-lines μ-lines
-slice-aggregate-blank-from c = search needs
+slice-aggregate-holds-only-from :
+    tie.Need-slice-aggregate-holds-only-from Inv-places μ-places Inv-lines μ-lines
+slice-aggregate-holds-only-from c = search needs
 
-blank-from-requires : tie.Need-blank-from-requires Inv-places μ-places Inv-lines μ-lines
-blank-from-requires c κs = search needs
+holds-only-from-requires : tie.Need-holds-only-from-requires Inv-places μ-places Inv-lines μ-lines
+holds-only-from-requires c κs = search needs
 
 add-k : tie.Need-add-k Inv-places μ-places Inv-lines μ-lines
 add-k c = search needs
@@ -184,11 +173,11 @@ lines-again : tie.Need-lines-again Inv-places μ-places Inv-lines μ-lines
 lines-again c =
     let e = c .before .before .before in
     let p = e .before .before .before .before .before .before .before in
-    let a = p .before .args in
-    let good = sym (c .before .blank-from .ensures) ∙ not-false _ (c .if5 .left) in (
+    let a = p .before .args in (
       omega arith,
       p .lines .inv .1,
-      all-more (p .lines .k) (fits (a .sizes .now) (a .t2) (a .t3)) (line-rest e ∙ good) (p .lines .inv .2),
+      all-more (p .lines .k) (fits (a .sizes .now) (a .t2) (a .t3))
+          (line-rest e ∙ sym (c .before .holds-only-from .ensures) ∙ not-false _ (c .if5 .left)) (p .lines .inv .2),
       rw (line-ended e .nobody) at (e .before .places .inv .4),
     )
 
@@ -201,23 +190,19 @@ returns-2 c =
     let a = p .before .args in
     let i = o .places in
     let bad = line-bad (r .wide .result) (member (getD (a .t2) (p .lines .k) 0))
-    (getD (a .t3) (p .lines .k) blankLine .places) (i .j) (w .wide2 .result) (omega (arith, i .inv .2))
-    (w .wide2 .ensures) (w .before .if2 .left) (sym (c .before .may-stand .ensures) ∙ not-true _ (c .if3 .taken)) in
+    (getD (a .t3) (p .lines .k) blankLine .places) (w .wide2 .ensures) (omega (arith, i .inv .2)) (w .before .if2 .left)
+    (sym (c .before .may-stand .ensures) ∙ not-true _ (c .if3 .taken)) in
     sym (line-fails (a .sizes .now) (a .t2) (a .t3) (p .lines .k) (omega arith) (sym (i .inv .3) ∙ bad))
 
 returns-3 : tie.Need-returns-3 Inv-places μ-places Inv-lines μ-lines
 returns-3 c =
     let w = c .before .before .before .before in
     let o = w .before .before .before in
-    let r = o .before .before .before in
-    let p = r .before .before .before in
+    let p = o .before .before .before .before .before .before in
     let a = p .before .args in
     let i = o .places in
-    let twice = stands-twice (r .wide .result) (member (getD (a .t2) (p .lines .k) 0))
-    (getD (a .t3) (p .lines .k) blankLine .places) (i .j) (w .wide2 .result) (omega (arith, i .inv .2))
-    (w .wide2 .ensures) (w .before .if2 .left) (i .seen)
-    (joined (linesIn (a .t3)) (p .lines .k + 1) (maxClusters - (p .lines .k + 1)))
-    (sym (c .before .member .ensures) ∙ c .if4 .taken) in
+    let twice = stands-twice (getD (a .t3) (p .lines .k) blankLine .places) (w .wide2 .ensures)
+    (omega (arith, i .inv .2)) (w .before .if2 .left) (i .seen) _ (sym (c .before .member .ensures) ∙ c .if4 .taken) in
     sym (seen-fails (a .sizes .now) (a .t2) (a .t3) (sym (i .inv .4) ∙ twice))
 
 returns-4 : tie.Need-returns-4 Inv-places μ-places Inv-lines μ-lines
@@ -225,8 +210,8 @@ returns-4 c =
     let e = c .before .before .before in
     let p = e .before .before .before .before .before .before .before in
     let a = p .before .args in
-    let bad = sym (c .before .blank-from .ensures) ∙ not-true _ (c .if5 .taken) in
-    sym (line-fails (a .sizes .now) (a .t2) (a .t3) (p .lines .k) (omega arith) (line-rest e ∙ bad))
+    sym (line-fails (a .sizes .now) (a .t2) (a .t3) (p .lines .k) (omega arith)
+    (line-rest e ∙ sym (c .before .holds-only-from .ensures) ∙ not-true _ (c .if5 .taken)))
 
 pub lines-seen-spec : {M : Type 1} → statement M
 lines-seen-spec =
@@ -254,8 +239,8 @@ lines-seen-spec =
     add-j
     places-less
     places-again
-    slice-aggregate-blank-from
-    blank-from-requires
+    slice-aggregate-holds-only-from
+    holds-only-from-requires
     add-k
     lines-less
     lines-again

@@ -9,9 +9,9 @@ use native.Mathlib.Omega.{arith}
 use lib.ListN.{length, drop}
 use borrow.Author.Needs.{needs}
 use borrow.Author.Tests.{not-true, not-false}
+use Rattle.rules.specs.Limits.{unusedPlace}
 use Rattle.sets.specs.Sets.{member}
-use Rattle.places.specs.Places.{blank}
-use Rattle.standing.specs.Answers.{queueSeen}
+use Rattle.standing.specs.Answers.{holdsOnly, queueSeen}
 use Rattle.standing.proofs.Queues.{queue-turn, queue-bad, queue-twice, queue-end, ended-here, ended-past}
 use Rattle.standing.proofs.queue_seen.Statement.{statement}
 use Rattle.standing.proofs.queue_seen.Tie as tie
@@ -43,9 +43,8 @@ returns c =
     let w = c .before .before in
     let o = w .before .before .before .before .before in
     let a = o .before .before .args in
-    sym (queue-bad (member (a .known)) (a .q .now) (o .loop .i) (o .loop .everyone) (w .wide .result)
-    (omega arith) (w .wide .ensures) (w .before .before .if1 .left)
-    (sym (c .before .member .ensures) ∙ not-true _ (c .if2 .taken)))
+    sym (queue-bad (member (a .known)) (o .loop .everyone) (a .q .now) (w .wide .ensures) (omega arith)
+    (w .before .before .if1 .left) (sym (c .before .member .ensures) ∙ not-true _ (c .if2 .taken)))
     ∙ o .loop .inv .1
 
 member-requires-2 : tie.Need-member-requires-2 Inv-loop μ-loop
@@ -56,9 +55,8 @@ returns-2 c =
     let w = c .before .before .before .before in
     let o = w .before .before .before .before .before in
     let a = o .before .before .args in
-    sym (queue-twice (member (a .known)) (a .q .now) (o .loop .i) (o .loop .everyone) (w .wide .result)
-    (omega arith) (w .wide .ensures) (w .before .before .if1 .left)
-    (sym (c .before .member2 .ensures) ∙ c .if3 .taken))
+    sym (queue-twice (member (a .known)) (o .loop .everyone) (a .q .now) (w .wide .ensures) (omega arith)
+    (w .before .before .if1 .left) (sym (c .before .member2 .ensures) ∙ c .if3 .taken))
     ∙ o .loop .inv .1
 
 with-requires : tie.Need-with-requires Inv-loop μ-loop
@@ -78,21 +76,21 @@ loop-again c =
     let a = o .before .before .args in (
       omega arith,
       rw (c .with .ensures)
-          (sym (queue-turn (member (a .known)) (a .q .now) (o .loop .i) (o .loop .everyone) (w .wide .result)
-          (omega arith) (w .wide .ensures) (w .before .before .if1 .left)
+          (sym (queue-turn (member (a .known)) (o .loop .everyone) (a .q .now) (w .wide .ensures) (omega arith)
+          (w .before .before .if1 .left)
           (sym (m .before .before .member .ensures) ∙ not-false _ (m .before .if2 .left))
           (sym (m .member2 .ensures) ∙ c .before .if3 .left))
           ∙ o .loop .inv .1),
     )
 
-blank-from-requires : tie.Need-blank-from-requires Inv-loop μ-loop
-blank-from-requires c κs = search needs
+holds-only-from-requires : tie.Need-holds-only-from-requires Inv-loop μ-loop
+holds-only-from-requires c κs = search needs
 
 -- where the loop is left, by either way, nobody is left to see
 rest : (c : tie.Left-loop Inv-loop μ-loop)
     → queueSeen (member (c .before .before .before .args .known))
     (drop (c .before .loop .i) (c .before .before .before .args .q .now)) (c .before .loop .everyone)
-    ≡ cond (blank (drop (c .before .loop .i) (c .before .before .before .args .q .now)))
+    ≡ cond (holdsOnly unusedPlace (drop (c .before .loop .i) (c .before .before .before .args .q .now)))
     (some (c .before .loop .everyone)) none
 rest c =
     let o = c .before .loop in
@@ -105,13 +103,13 @@ returns-3 : tie.Need-returns-3 Inv-loop μ-loop
 returns-3 c =
     let b = c .before in
     let l = b .before in
-    sym (rest l ∙ rw (sym (b .blank-from .ensures) ∙ not-true _ (c .if4 .taken))) ∙ l .before .loop .inv .1
+    sym (rest l ∙ rw (sym (b .holds-only-from .ensures) ∙ not-true _ (c .if4 .taken))) ∙ l .before .loop .inv .1
 
 returns-4 : tie.Need-returns-4 Inv-loop μ-loop
 returns-4 c =
     let b = c .before in
     let l = b .before in
-    sym (rest l ∙ rw (sym (b .blank-from .ensures) ∙ not-false _ (c .if4 .left))) ∙ l .before .loop .inv .1
+    sym (rest l ∙ rw (sym (b .holds-only-from .ensures) ∙ not-false _ (c .if4 .left))) ∙ l .before .loop .inv .1
 
 pub queue-seen-spec : {M : Type 1} → statement M
 queue-seen-spec =
@@ -131,6 +129,6 @@ queue-seen-spec =
     add-i
     loop-less
     loop-again
-    blank-from-requires
+    holds-only-from-requires
     returns-3
     returns-4)

@@ -7,7 +7,8 @@ use borrow.Author.Tests.{not-true, not-false, le-leb}
 use Rattle.rules.specs.Limits.{maxCap}
 use Rattle.rules.specs.Refusals.{accepted}
 use Rattle.gate.specs.Made.{Told, verdictOf}
-use Rattle.soundness.specs.Clauses.{isTrimmed, setupSound}
+use Rattle.soundness.specs.Clauses.{setupSound}
+use Rattle.standing.proofs.Turns.{trimmed-is}
 use Rattle.standing.proofs.setup_sound.Statement.{statement}
 use Rattle.standing.proofs.setup_sound.Tie as tie
 
@@ -35,7 +36,7 @@ is-trimmed-requires : tie.Need-is-trimmed-requires
 is-trimmed-requires c κs = search needs
 
 returns-2 : tie.Need-returns-2
-unfolding setupSound isTrimmed verdictOf
+unfolding setupSound verdictOf
 returns-2 c =
     let w = c .before .before in
     let i = w .before .before .before .before .before .before in
@@ -44,7 +45,7 @@ returns-2 c =
       sym (ap (λ (t : Told). eqb (t .number) accepted) (i .before .before .setup-verdict .ensures))
           ∙ sym (i .before .is-accepted .ensures) ∙ not-false _ (i .if1 .left),
       le-leb (s .cap) maxCap (search needs),
-    ) (rw (c .before .wide2 .ensures, w .wide .ensures) at (c .is-trimmed .ensures))
+    ) (rw (c .before .wide2 .ensures, w .wide .ensures, trimmed-is s) at (c .is-trimmed .ensures))
 
 pub setup-sound-spec : {M : Type 1} → statement M
 setup-sound-spec =

@@ -4,13 +4,13 @@ use Prim.Native.Nat.{_-_}
 use mathlib.Core.Path.{_≡_, refl, sym, _∙_}
 use native.Mathlib.Omega.{arith}
 use lib.ListN.{length, drop}
-use Rattle.soundness.specs.Tests.{zeros}
-use Rattle.standing.proofs.Turns.{zeros-test, same-turn, same-stop, same-end}
+use Rattle.standing.specs.Answers.{holdsOnly}
+use Rattle.standing.proofs.Turns.{same-turn, same-stop, same-end}
 use Rattle.standing.proofs.zero_priorities_from.Statement.{statement}
 use Rattle.standing.proofs.zero_priorities_from.Tie as tie
 
 abbrev Inv-loop : tie.InvT-loop
-Inv-loop q from i₀ i = zeros (drop i q) ≡ zeros (drop from q)
+Inv-loop q from i₀ i = holdsOnly 0 (drop i q) ≡ holdsOnly 0 (drop from q)
 
 abbrev μ-loop : tie.MeasureT-loop
 μ-loop q from i₀ i = length q - i
@@ -28,7 +28,7 @@ returns : tie.Need-returns Inv-loop μ-loop
 returns c =
     let o = c .before .before .before .loop in
     let q = c .before .before .before .before .args .q .now in
-    sym (same-stop 0 zeros zeros-test q (o .i) (omega arith) (c .if1 .taken)) ∙ o .inv
+    sym (same-stop 0 q (o .i) (omega arith) (c .if1 .taken)) ∙ o .inv
 
 add-i : tie.Need-add-i Inv-loop μ-loop
 add-i c = omega arith
@@ -40,13 +40,13 @@ loop-again : tie.Need-loop-again Inv-loop μ-loop
 loop-again c =
     let o = c .before .before .before .loop in
     let q = c .before .before .before .before .args .q .now in
-    sym (same-turn 0 zeros zeros-test q (o .i) (omega arith) (c .if1 .left)) ∙ o .inv
+    sym (same-turn 0 q (o .i) (omega arith) (c .if1 .left)) ∙ o .inv
 
 returns-2 : tie.Need-returns-2 Inv-loop μ-loop
 returns-2 c =
     let o = c .before .loop in
     let q = c .before .before .args .q .now in
-    sym (same-end 0 zeros zeros-test q (o .i) (omega arith)) ∙ o .inv
+    sym (same-end 0 q (o .i) (omega arith)) ∙ o .inv
 
 pub zero-priorities-from-spec : {M : Type 1} → statement M
 zero-priorities-from-spec =
