@@ -36,7 +36,7 @@ use Rattle.soundness.proofs.Exact.{passed-laid, empty-fails}
 use Rattle.events.specs.declared.Answer.{Answer}
 use Rattle.events.specs.declared.Answer.the-variants as is
 use Rattle.events.specs.Answers.{numberOf}
-use Rattle.step.specs.Stepped.{Told, stepped}
+use Rattle.step.specs.Stepped.{Result, stepped}
 use Rattle.log.specs.declared.Opening.the-variants.{Records, Refused}
 use Rattle.log.specs.declared.Refusal.{Refusal}
 use Rattle.log.specs.declared.Refusal.the-variants.{Long, Short, BadMark, BadVersion, BadClusters, NoCap}
@@ -63,9 +63,9 @@ refused-event g o n =
     by-test (soundOf g)
     (λ h.
     let e = step-sound g o h in
-    let same = refused-same (setupOf (g .setup)) (stateOf g) o (λ q. n (ap (λ (t : Told). t .number) e ∙ q)) in
-    ap (λ (t : Told). t .gate) e ∙ ap (shown (g .setup)) same ∙ shown-back g (passed-laid g h))
-    (λ h. ap (λ (t : Told). t .gate) (unsound-gate g o h))
+    let same = refused-same (setupOf (g .setup)) (stateOf g) o (λ q. n (ap (λ (t : Result). t .number) e ∙ q)) in
+    ap (λ (t : Result). t .gate) e ∙ ap (shown (g .setup)) same ∙ shown-back g (passed-laid g h))
+    (λ h. ap (λ (t : Result). t .gate) (unsound-gate g o h))
 
 -- A refused setup has its number, and yields the empty gate ..
 pub refused-setup : (v : Setup) → (setupAnswer (setupOf v) ≡ accepted → ⊥)

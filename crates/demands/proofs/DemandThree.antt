@@ -27,7 +27,7 @@ use Rattle.gate.specs.Made.{trimmedIn, made}
 use Rattle.gate.proofs.Making.{made-shown}
 use Rattle.gate.proofs.Tables.{table-at}
 use Rattle.gate.proofs.SoundShows.{fresh-sound}
-use Rattle.step.specs.Stepped.{Told, stepped}
+use Rattle.step.specs.Stepped.{Result, stepped}
 use Rattle.demands.specs.Histories.{gateAfter, answerAfter, chargeAfter}
 use Rattle.demands.proofs.Steps.{step-shown}
 
@@ -45,14 +45,14 @@ module _ (v : Setup) (a : Accepted (setupOf v)) where
   shows-after [] = made-shown v (a .no-refusal)
   shows-after (r ∷ h) =
       ap (λ (g : Gate). stepped g (eventOf r) .gate) (shows-after h)
-      ∙ ap (λ (t : Told). t .gate) (step-shown (trimmedIn v) (after u h) (eventOf r) (sound-after h))
+      ∙ ap (λ (t : Result). t .gate) (step-shown (trimmedIn v) (after u h) (eventOf r) (sound-after h))
 
   -- .. and the next answer is the rules' own.
   pub answers-after : (h : List Record) (r : Record)
       → answerAfter (made v .gate) h r ≡ answerOf u (after u h) (eventOf r)
   answers-after h r =
       ap (λ (g : Gate). stepped g (eventOf r) .number) (shows-after h)
-      ∙ ap (λ (t : Told). t .number) (step-shown (trimmedIn v) (after u h) (eventOf r) (sound-after h))
+      ∙ ap (λ (t : Result). t .number) (step-shown (trimmedIn v) (after u h) (eventOf r) (sound-after h))
 
   -- 19 is never given.
   pub never-nineteen : (h : List Record) (r : Record) → answerAfter (made v .gate) h r ≡ unsound → ⊥

@@ -17,7 +17,7 @@ use Rattle.soundness.proofs.Exact.{sound-exact}
 use Rattle.events.specs.declared.Answer.{Answer}
 use Rattle.step.specs.declared.Answered.{Answered}
 use Rattle.events.proofs.Only.{one-answer}
-use Rattle.step.specs.Stepped.{Told, toldIn, stepped}
+use Rattle.step.specs.Stepped.{Result, toldIn, stepped}
 use Rattle.demands.proofs.Steps.{step-shown}
 
 -- SOUND GATES
@@ -37,11 +37,11 @@ module _ (g : Gate) (s : ShowsSound g) (o : Option Event) where
 
   -- The gate after it is the shown form of the state that the rules give ..
   pub leaves : stepped g o .gate ≡ shown (g .setup) (stepOf (setupOf (g .setup)) (s .state) o)
-  leaves = ap (λ (t : Told). t .gate) ruled
+  leaves = ap (λ (t : Result). t .gate) ruled
 
   -- .. and the number is the rules' own, so that it is refused exactly when they say so.
   pub answers : stepped g o .number ≡ answerOf (setupOf (g .setup)) (s .state) o
-  answers = ap (λ (t : Told). t .number) ruled
+  answers = ap (λ (t : Result). t .number) ruled
 
 -- No second answer fits the promise of a step, whatever the gate.
 pub one-answer-fits : (g : Gate) (o : Option Event) (r t : Answered)
@@ -49,8 +49,8 @@ pub one-answer-fits : (g : Gate) (o : Option Event) (r t : Answered)
 one-answer-fits g o r t e q =
     let same = e ∙ sym q in
     ap₂ (λ (a : Answer) (h : Gate). record { answer = a; gate = h })
-    (one-answer (r .answer) (t .answer) (ap (λ (x : Told). x .number) same))
-    (ap (λ (x : Told). x .gate) same)
+    (one-answer (r .answer) (t .answer) (ap (λ (x : Result). x .number) same))
+    (ap (λ (x : Result). x .gate) same)
 
 -- THE QUOTE
 

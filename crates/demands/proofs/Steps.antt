@@ -11,12 +11,12 @@ use Rattle.gate.specs.Shown.{setupOf, stateOf, shown}
 use Rattle.gate.proofs.Reading.{shown-setup}
 use Rattle.gate.proofs.SoundShows.{sound-back}
 use Rattle.soundness.proofs.Exact.{shown-passes}
-use Rattle.step.specs.Stepped.{Told, stepped}
+use Rattle.step.specs.Stepped.{Result, stepped}
 use Rattle.step.proofs.Doors.{step-sound}
 
 -- what the rules give of the shown state
 ruled-shown : (w v : Setup) (t s : State) (o : Option Event) → w ≡ v → t ≡ s
-    → _≡_ {A = Told}
+    → _≡_ {A = Result}
     (record { number = answerOf (setupOf w) t o; gate = shown w (stepOf (setupOf w) t o) })
     (record { number = answerOf (setupOf v) s o; gate = shown v (stepOf (setupOf v) s o) })
 ruled-shown w v t s o a b = rw (a, b)

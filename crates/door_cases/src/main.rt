@@ -71,7 +71,7 @@ fn answer(case: &[u8]) -> bool {
 
 // 1 if a gate is sound, else 0.
 fn flag(g: Gate) -> u8 {
-    if sound::sound(g) { b'1' } else { b'0' }
+    if sound_check::sound(g) { b'1' } else { b'0' }
 }
 
 // What the step makes of a gate and the record of a case.

@@ -101,7 +101,7 @@ fn matches(log: &[u8], text: &[u8]) -> bool
     ensures { λ r. ⌜ (now (text .entry) ≡ reportOf (now (log .entry)) → r ≡ true) ⌝ }
 {
     let mut out = [0u8; report::MAX_TEXT];
-    let k = replaying::report(log, &mut out);
+    let k = log_report::report(log, &mut out);
     check::same(&out[..k], text)
 }
 

@@ -28,6 +28,6 @@ fn replay(fd: i32) {
         return;
     };
     let mut out = [0u8; report::MAX_TEXT];
-    let k = replaying::report(&log[..n], &mut out);
+    let k = log_report::report(&log[..n], &mut out);
     streams::write_out(&out[..k]);
 }

@@ -26,7 +26,7 @@ use Rattle.soundness.specs.Clauses.{soundOf}
 use Rattle.soundness.proofs.Exact.{passed-laid, passed-sound, shown-passes}
 use Rattle.events.specs.Answers.{numberOf, Answers, Holds}
 use Rattle.events.specs.declared.Outcome.{Outcome}
-use Rattle.step.specs.Stepped.{Told, toldIn, ruled, stepped, toldOf, Stands, Steps}
+use Rattle.step.specs.Stepped.{Result, toldIn, ruled, stepped, toldOf, Stands, Steps}
 use Rattle.step.specs.declared.Answered.{Answered}
 
 module _ {v : Setup} {q : Queues} {cs : List ℕ} (h : Stands v q cs) where

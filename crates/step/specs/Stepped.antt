@@ -18,23 +18,24 @@ use Rattle.events.specs.Answers.{numberOf}
 use Rattle.events.specs.declared.Outcome.{Outcome}
 use Rattle.step.specs.declared.Answered.{Answered}
 
-pub record Told : Type 0 where
+-- the number that a step answers, and the gate after it
+pub record Result : Type 0 where
   pub number : ℕ
   pub gate : Gate
 
 -- each case of the answer by its number
-abbrev pub toldIn : Answered → Told
+abbrev pub toldIn : Answered → Result
 toldIn r = record { number = numberOf (r .answer); gate = r .gate }
 
 -- what the rules give in the state that the gate shows; none: a record without an event, which is 18
-abbrev pub ruled : Gate → Option Event → Told
+abbrev pub ruled : Gate → Option Event → Result
 ruled g o = record {
   number = answerOf (setupOf (g .setup)) (stateOf g) o;
   gate = shown (g .setup) (stepOf (setupOf (g .setup)) (stateOf g) o);
 }
 
 -- First an unsound state (19), then 18, then the event's own. A refused event returns the same gate.
-unfoldable pub stepped : Gate → Option Event → Told
+unfoldable pub stepped : Gate → Option Event → Result
 stepped g o = cond (soundOf g) (ruled g o) (record { number = unsound; gate = g })
 
 -- ON PARTS
@@ -43,7 +44,7 @@ stepped g o = cond (soundOf g) (ruled g o) (record { number = unsound; gate = g 
 pub record Stands (v : Setup) (q : Queues) (cs : List ℕ) : Type 0 where
   pub sound : soundOf (gateOf v q cs) ≡ true
 
-abbrev pub toldOf : Setup → Outcome → List ℕ → Told
+abbrev pub toldOf : Setup → Outcome → List ℕ → Result
 toldOf v r cs = record { number = numberOf (r .answer); gate = gateOf v (r .queues) cs }
 
 -- the outcome, with the charges cs′ after, is the step of the gate of these parts, and leaves a sound gate's

@@ -138,7 +138,7 @@ fn joined_record(s: Setup, q: Queues, charges: [u32; 64], h: Heard) -> Answered
 fn checked_record(g: Gate, h: Heard) -> Answered
     ensures { λ r. ⌜ toldIn r ≡ stepped g (heardIn h) ⌝ }
 {
-    if !sound::sound(g) {
+    if !sound_check::sound(g) {
         return Answered {
             answer: Answer::Unsound,
             gate: g,

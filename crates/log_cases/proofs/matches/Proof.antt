@@ -2,7 +2,7 @@
 -- Assumes nothing.
 use mathlib.Core.Path.{_∙_, sym}
 use borrow.Author.Needs.{needs}
-use Rattle.replaying.proofs.Reports.{wrote-text}
+use Rattle.log_report.proofs.Reports.{wrote-text}
 use Rattle.log_cases.proofs.matches.Statement.{statement}
 use Rattle.log_cases.proofs.matches.Tie as tie
 
