@@ -1,11 +1,13 @@
 -- The tests of the one in service, from who it is and as what.
 -- Assumes nothing.
 use Prim.Native.Nat.{ℕ, _<_}
-use mathlib.Core.Bool.{_&&_, not, true}
+use mathlib.Core.Bool.{_&&_, cond, not, true}
+use mathlib.Core.Option.{none, some}
 use mathlib.Core.Path.{_≡_, refl}
 use native.Mathlib.Omega.{arith}
 use lib.Dec.{eqb}
 use Rattle.rules.specs.Limits.{maxClients}
+use Rattle.rules.specs.Replay.{inService}
 use Rattle.rules.specs.Setup.{Setup}
 use Rattle.rules.specs.State.{Server, idle, front, best, spent, serves, isFront, isIdle, isSpent, blocks}
 use Rattle.rules.proofs.Tests.{clash}
@@ -35,6 +37,12 @@ blocks-is u idle k = refl
 blocks-is u (front d) k = refl
 blocks-is u (best d) k = refl
 blocks-is u (spent d) k = refl
+
+pub in-service : (x : Server) → inService x ≡ cond (isIdle x) none (some (servedBy x))
+in-service idle = refl
+in-service (front d) = refl
+in-service (best d) = refl
+in-service (spent d) = refl
 
 -- as what it is
 pub as-front : (x : Server) → asFront x ≡ true → x ≡ front (servedBy x)

@@ -10,6 +10,7 @@ use lib.ListN.{length}
 use Rattle.rules.specs.Limits.{maxClients, maxClusters}
 use Rattle.rules.specs.Refusals.{unsound}
 use Rattle.rules.specs.Sound.{Sound}
+use Rattle.rules.specs.State.{State}
 use Rattle.rules.specs.Events.{Event}
 use Rattle.rules.specs.Records.{answerOf, stepOf}
 use Rattle.rules.proofs.Setups.{allowed}
@@ -30,10 +31,14 @@ use Rattle.step.specs.Stepped.{Result, toldIn, ruled, stepped, toldOf, S
 use Rattle.step.specs.declared.Answered.{Answered}
 
 module _ {v : Setup} {q : Queues} {cs : List ℕ} (h : Stands v q cs) where
-  shows : Shows v (stateOf (gateOf v q cs)) (gateOf v q cs)
+  -- the state that they show
+  abbrev now : State
+  now = stateOf (gateOf v q cs)
+
+  shows : Shows v now (gateOf v q cs)
   shows = laid-shows (gateOf v q cs) (passed-laid (gateOf v q cs) (h .sound))
 
-  pub holds : Holds v (stateOf (gateOf v q cs)) q cs
+  pub holds : Holds v now q cs
   holds = record { queues = shows .queues; charges = shows .charges; sound = passed-sound (gateOf v q cs) (h .sound) }
 
   -- every index of the code is in its range
@@ -50,25 +55,25 @@ module _ {v : Setup} {q : Queues} {cs : List ℕ} (h : Stands v q cs) where
   server = rw (shows .queues .service .server) (shows .queues .service .fits)
 
   -- a gate by the rules is the step's, and sound
-  steps : (r : Outcome) (cs′ : List ℕ) (o : Option Event) → numberOf (r .answer) ≡ answerOf (setupOf v) (stateOf (gateOf v q cs)) o
-      → gateOf v (r .queues) cs′ ≡ shown v (stepOf (setupOf v) (stateOf (gateOf v q cs)) o) → Steps v q cs o r cs′
+  steps : (r : Outcome) (cs′ : List ℕ) (o : Option Event) → numberOf (r .answer) ≡ answerOf (setupOf v) now o
+      → gateOf v (r .queues) cs′ ≡ shown v (stepOf (setupOf v) now o) → Steps v q cs o r cs′
   unfolding stepped
   steps r cs′ o n e = (
     rw (h .sound, n, e),
     record {
-      sound = rw e (shown-passes v (stepOf (setupOf v) (stateOf (gateOf v q cs)) o)
-          (sound-stays (setupOf v) (stateOf (gateOf v q cs)) o (holds .sound)));
+      sound = rw e (shown-passes v (stepOf (setupOf v) now o)
+          (sound-stays (setupOf v) now o (holds .sound)));
     },
   )
 
   -- the promise of an event's function, at these parts
-  pub answered : (r : Outcome) (cs′ : List ℕ) (e : Event) → Answers v (stateOf (gateOf v q cs)) e r cs′ → Steps v q cs (some e) r cs′
+  pub answered : (r : Outcome) (cs′ : List ℕ) (e : Event) → Answers v now e r cs′ → Steps v q cs (some e) r cs′
   answered r cs′ e a =
-      steps r cs′ (some e) (a .number) (shows-is v (stepOf (setupOf v) (stateOf (gateOf v q cs)) (some e)) (gateOf v (r .queues) cs′)
+      steps r cs′ (some e) (a .number) (shows-is v (stepOf (setupOf v) now (some e)) (gateOf v (r .queues) cs′)
       (record { fine = fine; setup = refl; queues = a .queues; charges = a .charges }))
 
   -- a record without an event
-  pub unheard : (r : Outcome) → numberOf (r .answer) ≡ answerOf (setupOf v) (stateOf (gateOf v q cs)) none → r .queues ≡ q
+  pub unheard : (r : Outcome) → numberOf (r .answer) ≡ answerOf (setupOf v) now none → r .queues ≡ q
       → Steps v q cs none r cs
   unheard r n e = steps r cs none n (rw e (sym (shown-back (gateOf v q cs) (passed-laid (gateOf v q cs) (h .sound)))))
 

@@ -22,7 +22,8 @@ queues-of-requires c κs = search needs
 
 joined-record-requires : tie.Need-joined-record-requires
 joined-record-requires c κs =
-    rw (c .queues-of .ensures) (record { sound = sym (c .before .before .before .before .sound .ensures) ∙ not-false _ (c .before .before .before .if1 .left) })
+    let i = c .before .before .before in
+    rw (c .queues-of .ensures) (record { sound = sym (i .before .sound .ensures) ∙ not-false _ (i .if1 .left) })
 
 returns-2 : tie.Need-returns-2
 returns-2 c = rw (c .before .queues-of .ensures) at (c .joined-record .ensures)

@@ -1,4 +1,4 @@
--- `effects::ended` meets its contract: whoever is in service, the request ends.
+-- `effects::ending::ended` meets its contract: whoever is in service, the request ends.
 -- Assumes nothing.
 use mathlib.Core.Path.{_∙_, _≡_, refl, subst, sym}
 use borrow.Author.Needs.{needs}
@@ -7,8 +7,8 @@ use Rattle.rows.proofs.Service.{served-fits}
 use Rattle.rules.specs.State.{front, spent}
 use Rattle.effects.specs.Finds.{Yields}
 use Rattle.effects.proofs.Leaving.{ended-by, ended-freed, served-front, served-spent, shows-freed}
-use Rattle.effects.proofs.ended.Statement.{statement}
-use Rattle.effects.proofs.ended.Tie as tie
+use Rattle.effects.proofs.ending.ended.Statement.{statement}
+use Rattle.effects.proofs.ending.ended.Tie as tie
 
 served-requires : tie.Need-served-requires
 served-requires c κs = search needs

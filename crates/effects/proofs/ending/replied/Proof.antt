@@ -1,11 +1,11 @@
--- `effects::replied` meets its contract: the end of the request, then pick.
+-- `effects::ending::replied` meets its contract: the end of the request, then pick.
 -- Assumes nothing.
 use borrow.Author.Needs.{needs}
 use Rattle.gate.specs.Shown.{setupOf}
 use Rattle.rules.specs.Events.{replied}
 use Rattle.effects.specs.Finds.{ends}
-use Rattle.effects.proofs.replied.Statement.{statement}
-use Rattle.effects.proofs.replied.Tie as tie
+use Rattle.effects.proofs.ending.replied.Statement.{statement}
+use Rattle.effects.proofs.ending.replied.Tie as tie
 
 ended-requires : tie.Need-ended-requires
 ended-requires c κs = search needs

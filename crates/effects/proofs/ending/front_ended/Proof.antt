@@ -1,12 +1,12 @@
--- `effects::front_ended` meets its contract.
+-- `effects::ending::front_ended` meets its contract.
 -- Assumes nothing.
 use borrow.Author.Needs.{needs}
 use Rattle.gate.specs.Shown.{setupOf}
 use Rattle.rules.specs.Events.{freed, gone}
 use Rattle.rules.specs.Rank.{outranks}
 use Rattle.effects.proofs.Leaving.{by-rank, gone-global, shows-freed, shows-queue}
-use Rattle.effects.proofs.front_ended.Statement.{statement}
-use Rattle.effects.proofs.front_ended.Tie as tie
+use Rattle.effects.proofs.ending.front_ended.Statement.{statement}
+use Rattle.effects.proofs.ending.front_ended.Tie as tie
 
 home-requires : tie.Need-home-requires
 home-requires c κs = search needs

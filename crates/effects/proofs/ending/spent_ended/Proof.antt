@@ -1,10 +1,10 @@
--- `effects::spent_ended` meets its contract.
+-- `effects::ending::spent_ended` meets its contract.
 -- Assumes nothing.
 use borrow.Author.Needs.{needs}
 use Rattle.rules.specs.Events.{freed}
 use Rattle.effects.proofs.Leaving.{shows-freed, shows-queue}
-use Rattle.effects.proofs.spent_ended.Statement.{statement}
-use Rattle.effects.proofs.spent_ended.Tie as tie
+use Rattle.effects.proofs.ending.spent_ended.Statement.{statement}
+use Rattle.effects.proofs.ending.spent_ended.Tie as tie
 
 home-requires : tie.Need-home-requires
 home-requires c κs = search needs

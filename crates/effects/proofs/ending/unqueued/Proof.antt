@@ -1,8 +1,8 @@
--- `effects::unqueued` meets its contract.
+-- `effects::ending::unqueued` meets its contract.
 -- Assumes nothing.
 use borrow.Author.Needs.{needs}
-use Rattle.effects.proofs.unqueued.Statement.{statement}
-use Rattle.effects.proofs.unqueued.Tie as tie
+use Rattle.effects.proofs.ending.unqueued.Statement.{statement}
+use Rattle.effects.proofs.ending.unqueued.Tie as tie
 
 slice-aggregate-take-out : tie.Need-slice-aggregate-take-out
 slice-aggregate-take-out c = search needs

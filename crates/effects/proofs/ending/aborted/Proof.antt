@@ -1,4 +1,4 @@
--- `effects::aborted` meets its contract: in the room, front in service, front and not in service, or behind others.
+-- `effects::ending::aborted` meets its contract: in the room, front in service, another front, or behind others.
 -- Assumes nothing.
 use mathlib.Core.Path.{_∙_, ap, refl, sym}
 use lib.Dec.{eqb}
@@ -9,8 +9,8 @@ use Rattle.rules.specs.Events.{spend}
 use Rattle.rules.specs.State.{isFront}
 use Rattle.effects.proofs.Leaving.{by-rank, abort-front, abort-line, abort-room, abort-served, shows-left}
 use Rattle.effects.proofs.Leaving.{shows-spend}
-use Rattle.effects.proofs.aborted.Statement.{statement}
-use Rattle.effects.proofs.aborted.Tie as tie
+use Rattle.effects.proofs.ending.aborted.Statement.{statement}
+use Rattle.effects.proofs.ending.aborted.Tie as tie
 
 home-requires : tie.Need-home-requires
 home-requires c κs = search needs

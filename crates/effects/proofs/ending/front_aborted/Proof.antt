@@ -1,12 +1,12 @@
--- `effects::front_aborted` meets its contract.
+-- `effects::ending::front_aborted` meets its contract.
 -- Assumes nothing.
 use borrow.Author.Needs.{needs}
 use Rattle.gate.specs.Shown.{setupOf}
 use Rattle.rules.specs.Events.{gone, unqueue}
 use Rattle.rules.specs.Rank.{outranks}
 use Rattle.effects.proofs.Leaving.{by-rank, gone-global, shows-queue, shows-unqueue}
-use Rattle.effects.proofs.front_aborted.Statement.{statement}
-use Rattle.effects.proofs.front_aborted.Tie as tie
+use Rattle.effects.proofs.ending.front_aborted.Statement.{statement}
+use Rattle.effects.proofs.ending.front_aborted.Tie as tie
 
 home-requires : tie.Need-home-requires
 home-requires c κs = search needs

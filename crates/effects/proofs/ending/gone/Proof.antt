@@ -1,10 +1,10 @@
--- `effects::gone` meets its contract: c leaves its line, and the refill goes by the rank that the event read.
+-- `effects::ending::gone` meets its contract: c leaves its line, and the refill goes by the rank that the event read.
 -- Assumes nothing.
 use borrow.Author.Needs.{needs}
 use Rattle.rules.specs.Queues.{without}
 use Rattle.effects.proofs.Leaving.{shows-gone, shows-without}
-use Rattle.effects.proofs.gone.Statement.{statement}
-use Rattle.effects.proofs.gone.Tie as tie
+use Rattle.effects.proofs.ending.gone.Statement.{statement}
+use Rattle.effects.proofs.ending.gone.Tie as tie
 
 home-requires : tie.Need-home-requires
 home-requires c κs = search needs
