@@ -25,7 +25,7 @@ use Rattle.gate.specs.Shows.{ShowsLines}
 use Rattle.gate.specs.declared.Line.{Line}
 use Rattle.gate.specs.declared.Setup.{Setup}
 use Rattle.gate.proofs.Parts.{has-is, line-at, room-at}
-use Rattle.rows.proofs.Ranks.{rank-is}
+use Rattle.ranks.proofs.Ranks.{rank-is}
 use Rattle.charging.specs.Charged.{chargedIn, precedesIn, waitingIn}
 use Rattle.charging.proofs.Building.{count-same, union-all, union-next, union-none}
 

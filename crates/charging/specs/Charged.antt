@@ -8,7 +8,7 @@ use lib.ListN.{getD, set}
 use Rattle.rules.specs.Limits.{maxClients, maxCharge}
 use Rattle.rules.specs.Lists.{has, countBelow}
 use Rattle.sets.specs.Sets.{member, setOf}
-use Rattle.rows.specs.Ranks.{rankBy}
+use Rattle.ranks.specs.Ranks.{rankBy}
 
 -- those in the places of a line, and those in a room
 abbrev pub waitingIn : List ℕ → ℕ → ℕ

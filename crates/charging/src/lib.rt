@@ -46,7 +46,7 @@ fn with_higher(priorities: &[u16; 64], waiting: u64, c: usize, d: usize, s: u64)
     if !sets::member(waiting, d) {
         return s;
     }
-    if rows::outranks(priorities, d, c) {
+    if ranks::outranks(priorities, d, c) {
         return sets::with(s, d);
     }
     s

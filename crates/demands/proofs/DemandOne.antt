@@ -33,16 +33,17 @@ use Rattle.gate.specs.Made.{emptyGate, freshGate, verdictOf, made}
 use Rattle.gate.proofs.Reading.{shown-back}
 use Rattle.soundness.specs.Clauses.{soundOf}
 use Rattle.soundness.proofs.Exact.{passed-laid, empty-fails}
-use Rattle.events.specs.declared.Answer.{Answer}
-use Rattle.events.specs.declared.Answer.the-variants as is
-use Rattle.events.specs.Answers.{numberOf}
+use Rattle.answers.specs.declared.Answer.{Answer}
+use Rattle.answers.specs.declared.Answer.the-variants as is
+use Rattle.answers.specs.Answers.{numberOf}
 use Rattle.step.specs.Stepped.{Result, stepped}
 use Rattle.log.specs.declared.Opening.the-variants.{Records, Refused}
 use Rattle.log.specs.declared.Refusal.{Refusal}
 use Rattle.log.specs.declared.Refusal.the-variants.{Long, Short, BadMark, BadVersion, BadClusters, NoCap}
 use Rattle.log.specs.declared.Refusal.the-variants.{ManyClients, CutTables, BadSize, BadRow, CutRecord}
-use Rattle.log.specs.Opening.{told, setupIn, openingOf}
-use Rattle.log.specs.Layout.{recordSize}
+use Rattle.layout.specs.Tables.{setupIn}
+use Rattle.log.specs.Opening.{told, openingOf}
+use Rattle.layout.specs.Layout.{recordSize}
 use Rattle.report.specs.Report.{heading, entryLines, refusedLine, whole, recordsIn, lastLines, replayed, reportOf}
 use Rattle.quote.specs.declared.Answer as quoted
 use Rattle.quote.specs.declared.Answer.the-variants as quoted-as

@@ -14,9 +14,9 @@ use Rattle.gate.specs.Shown.{setupOf, shown}
 use Rattle.soundness.specs.Clauses.{soundOf}
 use Rattle.soundness.specs.Form.{ShowsSound}
 use Rattle.soundness.proofs.Exact.{sound-exact}
-use Rattle.events.specs.declared.Answer.{Answer}
+use Rattle.answers.specs.declared.Answer.{Answer}
 use Rattle.step.specs.declared.Answered.{Answered}
-use Rattle.events.proofs.Only.{one-answer}
+use Rattle.answers.proofs.Only.{one-answer}
 use Rattle.step.specs.Stepped.{Result, toldIn, stepped}
 use Rattle.demands.proofs.Steps.{step-shown}
 

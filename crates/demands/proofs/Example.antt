@@ -22,8 +22,9 @@ use Rattle.gate.specs.Shown.{setupOf, table}
 use Rattle.gate.specs.Made.{verdictOf, made, trimmedIn, zeroPast, emptyBytes}
 use Rattle.log.specs.declared.Opening.the-variants.{Records, Refused}
 use Rattle.log.specs.declared.Refusal.the-variants.{Short}
-use Rattle.log.specs.Opening.{setupIn, headOf, tablesOf, openingOf}
-use Rattle.log.specs.Layout.{recordSize}
+use Rattle.layout.specs.Tables.{setupIn}
+use Rattle.log.specs.Opening.{headOf, tablesOf, openingOf}
+use Rattle.layout.specs.Layout.{recordSize}
 use Rattle.report.specs.Report.{whole}
 use Rattle.demands.specs.Histories.{chargeAfter}
 use Rattle.demands.proofs.DemandThree.{u, stored}

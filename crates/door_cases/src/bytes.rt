@@ -1,16 +1,16 @@
-// Byte by byte, the gate that the bytes of layout.rt say.
+// Byte by byte, the gate that the bytes of gates.rt say.
 
-use crate::layout::BACKGROUND;
-use crate::layout::CHARGES;
-use crate::layout::GLOBAL;
-use crate::layout::HOMES;
-use crate::layout::KINDS;
-use crate::layout::LINES;
-use crate::layout::PRIORITIES;
-use crate::layout::ROOMS;
-use crate::layout::SERVER;
-use crate::layout::SIZES;
-use crate::layout::UNITS;
+use crate::gates::BACKGROUND;
+use crate::gates::CHARGES;
+use crate::gates::GLOBAL;
+use crate::gates::HOMES;
+use crate::gates::KINDS;
+use crate::gates::LINES;
+use crate::gates::PRIORITIES;
+use crate::gates::ROOMS;
+use crate::gates::SERVER;
+use crate::gates::SIZES;
+use crate::gates::UNITS;
 use gate::Client;
 use gate::Gate;
 use gate::Server;

@@ -1,15 +1,15 @@
 // Tries the doors on gates from standard input. A case is a gate's bytes, a record's code and its 16-bit argument; its
 // line is 1 if the gate is sound, else 0, the answer, and each byte that the step changed.
 mod bytes;
-mod layout;
+mod gates;
 
 use bytes::byte_of;
 use gate::Gate;
-use layout::GATE;
-use layout::gate_in;
+use gates::GATE;
+use gates::gate_in;
+use layout::byte_at;
+use layout::word_at;
 use libc::STDIN_FILENO;
-use log::byte_at;
-use log::word_at;
 use step::Answered;
 use streams::Whole;
 use text::LF;
@@ -21,7 +21,7 @@ use text::wide_size;
 ghost use Prim.Native.Nat.{_+_, _*_, _≤_};
 ghost use lib.ListN.{length};
 
-const CASE: usize = GATE + log::RECORD;
+const CASE: usize = GATE + layout::RECORD;
 
 // Room for the longest line: 22 bytes before the changes, 42 a change, and an LF.
 const LINE: usize = 22 + 42 * GATE + 1;
@@ -79,7 +79,7 @@ fn tried(g: Gate, case: &[u8]) -> Answered {
     step::step_record(
         g,
         byte_at(case, GATE),
-        word_at(case, GATE + log::RECORD_ARGUMENT),
+        word_at(case, GATE + layout::RECORD_ARGUMENT),
     )
 }
 
@@ -91,7 +91,7 @@ fn put_case(out: &mut [u8; LINE], case: &[u8]) -> usize
     let r = tried(g, case);
     let answer = r.answer;
     let after = r.gate;
-    let at = put_answer(out, flag(g), events::number(answer));
+    let at = put_answer(out, flag(g), answers::number(answer));
     let end = put_changes(out, at, case, after);
     put_byte(out, end, LF)
 }

@@ -26,9 +26,9 @@ use Rattle.gate.specs.declared.Server.the-variants.{Idle, Spent}
 use Rattle.gate.specs.declared.Setup.{Setup}
 use Rattle.gate.proofs.Parts.{line-at, shows-global, shows-line, shows-room, shows-server, taken-out}
 use Rattle.rows.specs.Homes.{Home}
-use Rattle.rows.specs.Service.{asFront, asSpent, servedBy}
-use Rattle.rows.proofs.Ranks.{same-rank}
-use Rattle.rows.proofs.Service.{as-front, as-spent}
+use Rattle.serving.specs.Service.{asFront, asSpent, servedBy}
+use Rattle.ranks.proofs.Ranks.{same-rank}
+use Rattle.serving.proofs.Service.{as-front, as-spent}
 use Rattle.effects.specs.Finds.{ends}
 
 -- a refill and the leaving before it keep the global queue

@@ -104,11 +104,11 @@ fn ended<'a>(
 {
     let y = q.service;
     let server = y.server;
-    let c = rows::served(server);
-    if rows::as_front(server) {
+    let c = serving::served(server);
+    if serving::as_front(server) {
         return front_ended(q, homes, sizes, priorities, clients, c);
     }
-    if rows::as_spent(server) {
+    if serving::as_spent(server) {
         return spent_ended(q, homes, c);
     }
     freed(q)
@@ -195,7 +195,7 @@ pub fn aborted<'a>(
     }
     let y = q.service;
     let server = y.server;
-    if rows::is_front(server, at) {
+    if serving::is_front(server, at) {
         let n = moves::served(q, Server::Spent(c), y.units);
         return gone(n, homes, sizes, priorities, clients, c);
     }

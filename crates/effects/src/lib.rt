@@ -87,7 +87,7 @@ pub fn invoked<'a>(
     let y = q.service;
     let server = y.server;
     let n = entered(q, kinds, homes, sizes, c);
-    if rows::is_idle(server) {
+    if serving::is_idle(server) {
         return moves::picked(n);
     }
     n

@@ -80,7 +80,7 @@ fn is_report(log: i32, expected: i32) -> bool
     if expected < 0 {
         return false;
     }
-    let mut bytes = [0u8; log::MAX_LOG + 1];
+    let mut bytes = [0u8; layout::MAX_LOG + 1];
     let b = log_files::read_log(log, &mut bytes);
     let mut text = [0u8; report::MAX_TEXT + 1];
     let t = log_files::read_report(expected, &mut text);

@@ -24,8 +24,8 @@ use Rattle.gate.specs.declared.Line.{Line}
 use Rattle.gate.specs.declared.Queues.{Queues}
 use Rattle.gate.specs.declared.Setup.{Setup}
 use Rattle.gate.proofs.Parts.{appended, line-at, room-at, shows-line, shows-room, used-is}
-use Rattle.rows.specs.Ranks.{orNobody, rankBy}
-use Rattle.rows.proofs.Ranks.{Found, found, highest-same, rank-is}
+use Rattle.ranks.specs.Ranks.{orNobody, rankBy}
+use Rattle.ranks.proofs.Ranks.{Found, found, highest-same, rank-is}
 
 module _ {v : Setup} {s : State} {q : Queues} (fine : Fine v) (h : ShowsQueues v s q) (k : ℕ) (low : k < maxClusters)
     (d : Line) where

@@ -37,7 +37,7 @@ pub fn refilled<'a>(
     if rows::size(sizes, k) <= rows::used(line) {
         return q;
     }
-    let c = rows::highest_in(priorities, room, clients);
+    let c = ranks::highest_in(priorities, room, clients);
     if c == Gate::MAX_CLIENTS {
         return q;
     }
@@ -98,7 +98,7 @@ pub fn queued(q: Queues, homes: &[u8; 64], k: Cluster) -> Queues
 {
     let y = q.service;
     let server = y.server;
-    if rows::is_blocked(homes, server, k) {
+    if serving::is_blocked(homes, server, k) {
         return q;
     }
     let i = k.0;

@@ -4,7 +4,7 @@ use Prim.Native.Nat.{ℕ}
 use mathlib.Core.Path.{_≡_, refl}
 use mathlib.Core.Bool.{true, false}
 use mathlib.Core.List.{List, [], _∷_}
-use Rattle.places.specs.Places.{pad, unpad, blank, usedFirst, placeOf, usedOf, appendOf, closeUpOf, takeOutOf}
+use Rattle.places.specs.Places.{pad, unpad, holdsOnly, usedFirst, placeOf, usedOf, appendOf, closeUpOf, takeOutOf}
 
 -- two clients in four places; four clients, one of them twice; and an unused place before a used one
 abbrev two : List ℕ
@@ -26,8 +26,15 @@ unfolding unpad
 unpad-cases = (refl, refl, refl)
 
 first-cases : (usedFirst two ≡ true) × (usedFirst full ≡ true) × (usedFirst gap ≡ false)
-unfolding blank usedFirst
+unfolding holdsOnly usedFirst
 first-cases = (refl, refl, refl)
+
+-- another at the first place, or at the last; of no places it holds
+only-cases :
+    (holdsOnly 7 (7 ∷ 7 ∷ []) ≡ true) × (holdsOnly 7 (3 ∷ 7 ∷ []) ≡ false)
+    × (holdsOnly 7 (7 ∷ 3 ∷ []) ≡ false) × (holdsOnly 7 [] ≡ true)
+unfolding holdsOnly
+only-cases = (refl, refl, refl, refl)
 
 -- the first of two places that hold 7; 5 is in none of the four; 255 is found at the first unused place
 place-cases : (placeOf 7 full ≡ 0) × (placeOf 9 gap ≡ 2) × (placeOf 5 two ≡ 4) × (placeOf 255 two ≡ 2)

@@ -14,7 +14,7 @@ use lib.ListN.{length, getD}
 use Rattle.rules.specs.Limits.{unusedPlace}
 use Rattle.rules.specs.Lists.{has, heads}
 use Rattle.rules.proofs.Tests.{not-so, both-false, both-true}
-use Rattle.places.specs.Places.{pad, unpad, blank, usedFirst}
+use Rattle.places.specs.Places.{pad, unpad, holdsOnly, blank, usedFirst}
 
 -- HOW MANY
 
@@ -48,12 +48,12 @@ unpad-pad (suc n) (x ∷ l) u h =
 -- WHICH PLACES
 
 blank-pad : (n : ℕ) → blank (pad n []) ≡ true
-unfolding pad blank
+unfolding pad holdsOnly
 blank-pad zero = refl
 blank-pad (suc n) = blank-pad n
 
 pad-blank : (q : List ℕ) → blank q ≡ true → pad (length q) [] ≡ q
-unfolding pad blank
+unfolding pad holdsOnly
 pad-blank [] b = refl
 pad-blank (x ∷ q) b =
     let v = both-true (eqb x unusedPlace) (blank q) b in

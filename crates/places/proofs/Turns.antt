@@ -1,7 +1,8 @@
--- One turn of the loops: what is left to search from a place on, and what is left to close up. For any places.
+-- One turn of the loops: what is left to search, to test or to close up from a place on. For any places.
 -- Assumes nothing.
 use Prim.Native.Nat.{ℕ, zero, suc, _+_, _≤_, _<_}
 use mathlib.Core.Path.{_≡_, refl, sym, ap, _∙_}
+use mathlib.Core.Bool.{true, false}
 use mathlib.Core.List.{List, [], _∷_}
 use native.Mathlib.Nat.{add-zero, add-suc, suc-add, not-suc-le-zero, le-of-suc-le-suc}
 use native.Mathlib.Numerals.{add-one}
@@ -10,7 +11,7 @@ use borrow.Author.Tests.{eq-eqb, ne-eqb}
 use lib.ListN.{length, getD, drop, set, drop-of-length-le}
 use lib.Seq.{drop-cons}
 use Rattle.rules.specs.Limits.{unusedPlace}
-use Rattle.places.specs.Places.{placeOf, closeUpOf}
+use Rattle.places.specs.Places.{holdsOnly, placeOf, closeUpOf}
 
 -- the search for x from place i on: found here, found further on, or nowhere
 module _ (x : ℕ) (q : List ℕ) (i : ℕ) where
@@ -26,6 +27,20 @@ module _ (x : ℕ) (q : List ℕ) (i : ℕ) where
   pub place-end : length q ≤ i → i + placeOf x (drop i q) ≡ i
   unfolding placeOf
   place-end h = rw (drop-of-length-le q {i = i} h) (add-zero i)
+
+-- x everywhere from place i on: here and further on, not here, or nothing is left
+module _ (x : ℕ) (q : List ℕ) (i : ℕ) where
+  pub same-turn : i < length q → getD q i 0 ≡ x → holdsOnly x (drop i q) ≡ holdsOnly x (drop (i + 1) q)
+  unfolding holdsOnly
+  same-turn b e = rw (add-one, drop-cons q i 0, eq-eqb (getD q i 0) x e)
+
+  pub same-stop : i < length q → (getD q i 0 ≡ x → ⊥) → holdsOnly x (drop i q) ≡ false
+  unfolding holdsOnly
+  same-stop b e = rw (drop-cons q i 0, ne-eqb (getD q i 0) x e)
+
+  pub same-end : length q ≤ i → holdsOnly x (drop i q) ≡ true
+  unfolding holdsOnly
+  same-end b = rw (drop-of-length-le q {i = i} b)
 
 -- no such place: nothing to close up
 pub close-none : (q : List ℕ) (at : ℕ) → length q ≤ at → closeUpOf at q ≡ q

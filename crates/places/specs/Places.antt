@@ -20,10 +20,14 @@ unfoldable pub unpad : List ℕ → List ℕ
 unpad [] = []
 unpad (x ∷ q) = cond (eqb x unusedPlace) [] (x ∷ unpad q)
 
+-- x stands everywhere in the list
+unfoldable pub holdsOnly : ℕ → List ℕ → Bool
+holdsOnly x [] = true
+holdsOnly x (y ∷ q) = eqb y x && holdsOnly x q
+
 -- no place is used
-unfoldable pub blank : List ℕ → Bool
-blank [] = true
-blank (x ∷ q) = eqb x unusedPlace && blank q
+abbrev pub blank : List ℕ → Bool
+blank q = holdsOnly unusedPlace q
 
 -- used places come first
 unfoldable pub usedFirst : List ℕ → Bool

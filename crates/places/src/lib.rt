@@ -2,7 +2,8 @@
 // A slice of any length serves, and any contents: what each function answers is said of the places as they stand.
 
 ghost use mathlib.Core.Path.{_≡_};
-ghost use Rattle.places.specs.Places.{placeOf, usedOf, appendOf, closeUpOf, takeOutOf};
+ghost use lib.ListN.{drop};
+ghost use Rattle.places.specs.Places.{holdsOnly, placeOf, usedOf, appendOf, closeUpOf, takeOutOf};
 
 // What an unused place holds.
 pub const UNUSED: u8 = 255;
@@ -59,4 +60,18 @@ pub fn take_out(q: &mut [u8], x: u8)
 {
     let at = find(q, x);
     close_up(q, at);
+}
+
+// Nothing but x from a place on.
+pub fn holds_only_from(q: &[u8], from: usize, x: u8) -> bool
+    ensures { λ r. ⌜ r ≡ holdsOnly x (drop from (now (q .entry))) ⌝ }
+{
+    let mut i = from;
+    while i < q.len() {
+        if q[i] != x {
+            return false;
+        }
+        i += 1;
+    }
+    true
 }

@@ -32,5 +32,5 @@ pub fn present(line: Line, room: u64, background: &[u8; 64], server: Server, c: 
     if rows::holds(background, rows::byte(c)) {
         return true;
     }
-    rows::serves(server, rows::index(c))
+    serving::serves(server, rows::index(c))
 }

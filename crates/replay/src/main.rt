@@ -21,7 +21,7 @@ fn main() {
 
 // Replays the log that a descriptor gives. What can't be read has no report.
 fn replay(fd: i32) {
-    let mut log = [0u8; log::MAX_LOG + 1];
+    let mut log = [0u8; layout::MAX_LOG + 1];
     let whole = log_files::read_log(fd, &mut log);
     let Whole::Bytes(n) = whole else {
         streams::tell_unread();

@@ -1,21 +1,9 @@
-// What is read of a gate's parts: a client's row and rank, a cluster's size, the one in service, a line.
-mod rank;
-mod serving;
+// What is read of a gate's parts: a client's row, a cluster's size, a line.
 
 use gate::Client;
 use gate::Cluster;
 use gate::Gate;
 use gate::Line;
-pub use rank::highest_in;
-pub use rank::outranks;
-pub use serving::as_front;
-pub use serving::as_spent;
-pub use serving::is_blocked;
-pub use serving::is_front;
-pub use serving::is_idle;
-pub use serving::is_spent;
-pub use serving::served;
-pub use serving::serves;
 ghost use mathlib.Core.Path.{_≡_};
 ghost use Prim.Native.Nat.{_<_};
 ghost use lib.Dec.{eqb};

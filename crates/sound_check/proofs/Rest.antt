@@ -26,15 +26,16 @@ use Rattle.soundness.specs.Clauses.{laid, isReal, ofCluster, setupSound, everyo
 use Rattle.soundness.specs.Clauses.{backgroundSound, standSound, roomsSound, serverSound, chargesSound, restSound}
 use Rattle.soundness.specs.Clauses.{soundOf}
 use Rattle.soundness.proofs.Facts.{setup-facts}
-use Rattle.standing.specs.Answers.{linesIn, lineFits, linesFit, seenIf, linesSeen, queueSeen}
-use Rattle.standing.specs.declared.Clients.{Clients}
+use Rattle.standing.specs.Answers.{linesIn, lineFits, linesFit, seenIf, linesSeen, queueSeen, roomsFit}
+use Rattle.setup_check.specs.declared.Clients.{Clients}
 use Rattle.standing.proofs.Once.{andThen}
 use Rattle.standing.proofs.Standing.{standing-is}
-use Rattle.sound_check.specs.Answers.{thenTest, roomsFit, firstsOf, queuedOf, globalFits, serverFits, chargesFit}
-use Rattle.sound_check.proofs.Members.{in-set, less-is, clients, real-is, effort-is, own-known, own-is}
-use Rattle.sound_check.proofs.Rooms.{room-is}
-use Rattle.sound_check.proofs.Fronts.{first-is}
-use Rattle.sound_check.proofs.Globals.{global-is}
+use Rattle.fronts.specs.Answers.{thenTest, firstsOf, queuedOf, globalFits, serverFits}
+use Rattle.sound_check.specs.Answers.{chargesFit}
+use Rattle.setup_check.proofs.Members.{in-set, less-is, clients, real-is, effort-is, own-known, own-is}
+use Rattle.standing.proofs.Rooms.{room-is}
+use Rattle.fronts.proofs.Fronts.{first-is}
+use Rattle.fronts.proofs.Globals.{global-is}
 
 -- a clause that is answered, before the others
 module _ {a r : Bool} (p : r ≡ a) where

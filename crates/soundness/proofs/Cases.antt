@@ -11,13 +11,13 @@ use lib.ListN.{getD}
 use Rattle.rules.specs.Setup.{setupAnswer}
 use Rattle.rules.specs.State.{fresh}
 use Rattle.sets.specs.Sets.{member, setOf}
-use Rattle.places.specs.Places.{pad, unpad, usedFirst, blank}
+use Rattle.places.specs.Places.{pad, unpad, usedFirst, holdsOnly}
 use Rattle.gate.specs.declared.Setup.{Setup}
 use Rattle.gate.specs.declared.Server.{Server}
 use Rattle.gate.specs.declared.Server.the-variants.{Idle, Front, Best, Spent}
 use Rattle.gate.specs.declared.Gate.{Gate}
 use Rattle.gate.specs.Shown.{stateOf, shown, table, client}
-use Rattle.soundness.specs.Tests.{every, allBelow, zeros, distinct, joined, setIn, firstIn}
+use Rattle.soundness.specs.Tests.{every, allBelow, distinct, joined, setIn, firstIn}
 use Rattle.soundness.specs.Clauses.{soundOf, setupSound, isTrimmed, laid, lineSound, linesSound}
 use Rattle.soundness.specs.Clauses.{backgroundSound, roomSound, roomsSound, globalSound, chargesSound}
 use Rattle.soundness.specs.Clauses.{standSound, restSound}
@@ -92,7 +92,7 @@ sound-gates :
     × Tells (gate ok (line (1 ∷ [])) 0 (line []) (queue (3 ∷ [])) (Spent (client 2)) 10 1 30) true
     × Tells (still Idle 0 2 16777215) true × Tells (past (line []) 0) true
     × Tells (two (line (0 ∷ []) ∷ line (2 ∷ []) ∷ []) (2 ∷ []) (line (0 ∷ 2 ∷ []))) true
-unfolding setupAnswer member setOf pad unpad usedFirst blank stateOf shown table every allBelow zeros distinct joined
+unfolding setupAnswer member setOf pad unpad usedFirst holdsOnly stateOf shown table every allBelow distinct joined
     setIn firstIn soundOf setupSound isTrimmed laid lineSound linesSound backgroundSound roomSound roomsSound
     globalSound chargesSound standSound restSound
 sound-gates = (refl, refl, refl, refl, refl, refl, refl)
@@ -138,7 +138,7 @@ unsound-gates :
     -- units over L; a charge over the limit, of a best-effort client, past N
     × Tells (still (Best (client 3)) 11 1 30) false × Tells (still Idle 0 2 16777216) false
     × Tells (still Idle 0 3 1) false × Tells (still Idle 0 4 1) false
-unfolding setupAnswer member setOf pad unpad usedFirst blank stateOf shown table every allBelow zeros distinct joined
+unfolding setupAnswer member setOf pad unpad usedFirst holdsOnly stateOf shown table every allBelow distinct joined
     setIn firstIn soundOf setupSound isTrimmed laid lineSound linesSound backgroundSound roomSound roomsSound
     globalSound chargesSound standSound restSound
 unsound-gates = (

@@ -1,16 +1,18 @@
 -- What the tests on lists say, and facts that make them true. For any list and any length.
 -- Assumes nothing.
-use Prim.Native.Nat.{ℕ, zero, suc, _≤_, _<_}
+use Prim.Native.Nat.{ℕ, zero, suc, _+_, _≤_, _<_}
 use mathlib.Core.Path.{_≡_, refl}
-use mathlib.Core.Bool.{Bool, true, not, _&&_}
+use mathlib.Core.Bool.{Bool, true, false, not, _&&_}
 use mathlib.Core.List.{List, [], _∷_}
+use native.Mathlib.Numerals.{add-one}
 use native.Mathlib.Omega.{arith}
 use lib.Dec.{eqb}
 use lib.ListN.{getD, drop}
 use borrow.Author.Tests.{eqb-true, eqb-false, eq-eqb, not-true}
 use Rattle.rules.specs.Lists.{has, Distinct}
-use Rattle.rules.proofs.Tests.{by-test, clash, either-true, both-true}
+use Rattle.rules.proofs.Tests.{by-test, clash, not-so, either-true, both-true}
 use Rattle.rules.proofs.Lists.{has-head, has-tail}
+use Rattle.places.specs.Places.{holdsOnly}
 use Rattle.soundness.specs.Tests.{every, allBelow, zeros, distinct}
 
 pub and-both : (a b : Bool) → a ≡ true → b ≡ true → a && b ≡ true
@@ -47,10 +49,25 @@ unfolding allBelow
 at-all zero p h = refl
 at-all (suc n) p h = and-both (p n) (allBelow n p) (h n (omega arith)) (at-all n p (λ i b. h i (omega arith)))
 
+pub all-none : (p : ℕ → Bool) → allBelow 0 p ≡ true
+unfolding allBelow
+all-none p = refl
+
+pub all-more : (n : ℕ) (p : ℕ → Bool) → p n ≡ true → allBelow n p ≡ true → allBelow (n + 1) p ≡ true
+unfolding allBelow
+all-more n p e f = rw (add-one, e) f
+
+pub all-not : (n : ℕ) (p : ℕ → Bool) (i : ℕ) → i < n → p i ≡ false → allBelow n p ≡ false
+all-not n p i h e = not-so (allBelow n p) (λ f. clash (all-at n p f i h) e)
+
+-- all that were to be tried are
+pub all-done : (n i : ℕ) (p : ℕ → Bool) → i ≤ n → n ≤ i → allBelow i p ≡ true → allBelow n p ≡ true
+all-done n i p a b e = let q : n ≡ i = omega arith in rw q e
+
 -- ZEROS
 
 pub zeros-past : (n : ℕ) (q : List ℕ) → zeros (drop n q) ≡ true → (i : ℕ) → n ≤ i → getD q i 0 ≡ 0
-unfolding zeros
+unfolding holdsOnly
 zeros-past n [] e i h = refl
 zeros-past zero (x ∷ q) e zero h = eqb-true x 0 (both-true (eqb x 0) (zeros q) e .0)
 zeros-past zero (x ∷ q) e (suc i) h = zeros-past zero q (both-true (eqb x 0) (zeros q) e .1) i (omega arith)
@@ -58,7 +75,7 @@ zeros-past (suc n) (x ∷ q) e zero h = absurd (omega arith)
 zeros-past (suc n) (x ∷ q) e (suc i) h = zeros-past n q e i (omega arith)
 
 pub past-zeros : (n : ℕ) (q : List ℕ) → ((i : ℕ) → n ≤ i → getD q i 0 ≡ 0) → zeros (drop n q) ≡ true
-unfolding zeros
+unfolding holdsOnly
 past-zeros zero [] h = refl
 past-zeros (suc n) [] h = refl
 past-zeros zero (x ∷ q) h =

@@ -3,10 +3,10 @@
 use Prim.Native.Nat.{ℕ, zero, suc}
 use mathlib.Core.Bool.{Bool, true, not, _&&_, _||_}
 use mathlib.Core.List.{List, [], _∷_, _++_}
-use lib.Dec.{eqb}
 use Rattle.rules.specs.Limits.{maxClients}
 use Rattle.rules.specs.Lists.{has}
 use Rattle.sets.specs.Sets.{member, setOf}
+use Rattle.places.specs.Places.{holdsOnly}
 
 -- every number of the list passes the test
 unfoldable pub every : (ℕ → Bool) → List ℕ → Bool
@@ -19,9 +19,8 @@ allBelow zero p = true
 allBelow (suc n) p = p n && allBelow n p
 
 -- nothing but zeros
-unfoldable pub zeros : List ℕ → Bool
-zeros [] = true
-zeros (x ∷ l) = eqb x 0 && zeros l
+abbrev pub zeros : List ℕ → Bool
+zeros l = holdsOnly 0 l
 
 -- no number stands twice: the test of `Distinct`
 unfoldable pub distinct : List ℕ → Bool

@@ -1,8 +1,7 @@
--- A setup's clients as sets; loops over places, lines and queues, and who is seen in them. Assumes nothing.
-pub mod Sets
-pub mod Turns
+-- Loops over places, lines, queues and rooms, and who is seen in them.
 pub mod Queues
 pub mod Once
 pub mod Shape
 pub mod LineTurns
 pub mod Standing
+pub mod Rooms

@@ -16,7 +16,7 @@ use Rattle.gate.specs.declared.Line.{Line}
 use Rattle.gate.specs.Shown.{blankLine}
 use Rattle.soundness.specs.Tests.{allBelow, joined}
 use Rattle.standing.specs.Answers.{linesIn, lineFits, linesFit, seenFrom, linesSeen}
-use Rattle.standing.proofs.Turns.{all-not}
+use Rattle.soundness.proofs.Tests.{all-not}
 use Rattle.standing.proofs.Queues.{none-if}
 
 -- what is left to join, of the lists below n

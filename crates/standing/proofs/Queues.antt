@@ -1,7 +1,7 @@
 -- Loops over the used places of a queue: one turn, the ways out, and the end. For any test and any number of places.
 -- Assumes nothing.
 use Prim.Native.Nat.{ℕ, suc, _+_, _≤_, _<_}
-use mathlib.Core.Path.{_≡_, refl, sym}
+use mathlib.Core.Path.{_≡_, refl}
 use mathlib.Core.Bool.{Bool, true, false, _&&_, cond, and-false}
 use mathlib.Core.List.{List, [], _∷_, _++_}
 use mathlib.Core.Option.{Option, some, none}
@@ -17,8 +17,8 @@ use Rattle.sets.specs.Sets.{member, withOf}
 use Rattle.places.specs.Places.{unpad, usedFirst}
 use Rattle.soundness.specs.Tests.{every}
 use Rattle.soundness.specs.Clauses.{laid}
-use Rattle.standing.specs.Answers.{holdsOnly, lineFits, seenFrom, queueSeen}
-use Rattle.standing.proofs.Turns.{blank-is}
+use Rattle.places.specs.Places.{holdsOnly}
+use Rattle.standing.specs.Answers.{lineFits, seenFrom, queueSeen}
 
 -- WHERE THE USED PLACES END
 
@@ -27,15 +27,15 @@ pub record Ended (q : List ℕ) : Type 0 where
   pub rest : usedFirst q ≡ holdsOnly unusedPlace q
 
 pub ended-here : (q : List ℕ) (i : ℕ) → i < length q → getD q i 0 ≡ unusedPlace → Ended (drop i q)
-unfolding unpad usedFirst every
+unfolding unpad usedFirst holdsOnly
 ended-here q i b e =
     record {
       nobody = rw (drop-cons q i 0, eq-eqb (getD q i 0) unusedPlace e);
-      rest = rw (drop-cons q i 0, eq-eqb (getD q i 0) unusedPlace e) (sym (blank-is (drop (suc i) q)));
+      rest = rw (drop-cons q i 0, eq-eqb (getD q i 0) unusedPlace e);
     }
 
 pub ended-past : (q : List ℕ) (i : ℕ) → length q ≤ i → Ended (drop i q)
-unfolding unpad usedFirst every
+unfolding unpad usedFirst holdsOnly
 ended-past q i b = rw (drop-of-length-le q {i = i} b) (record { nobody = refl; rest = refl })
 
 -- NONE

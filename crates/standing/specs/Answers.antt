@@ -1,48 +1,20 @@
--- A setup's clients as sets, and who is seen in the lines and in a queue: what the functions of this crate answer.
+-- Who is seen in the lines and in a queue, and who may be in the rooms: what the functions of this crate answer.
 -- Assumes nothing.
-use Prim.Native.Nat.{ℕ}
-use mathlib.Core.Bool.{Bool, not, _&&_, cond}
+use Prim.Native.Nat.{ℕ, _^_}
+use mathlib.Core.Bool.{Bool, _&&_, _||_, cond}
 use mathlib.Core.List.{List, [], _∷_}
 use mathlib.Core.Option.{Option, some, none}
 use lib.Dec.{eqb, ltb, leb}
-use lib.ListN.{length, getD, drop}
+use lib.ListN.{length, getD}
 use Rattle.rules.specs.Limits.{maxClusters, maxSize, maxClients}
-use Rattle.sets.specs.Sets.{member, setOf, withOf}
+use Rattle.sets.specs.Sets.{member, withOf, lessOf}
 use Rattle.places.specs.Places.{unpad, usedFirst}
 use Rattle.gate.specs.declared.Line.{Line}
-use Rattle.gate.specs.Shown.{blankLine, showRooms}
+use Rattle.gate.specs.Shown.{blankLine}
 use Rattle.soundness.specs.Tests.{every, allBelow, joined}
 use Rattle.soundness.specs.Clauses.{laid}
-use Rattle.standing.specs.declared.Clients.{Clients}
 use Rattle.standing.specs.declared.Seen.{Seen}
 use Rattle.standing.specs.declared.Seen.the-variants.{Unsound, Once}
-
--- x stands everywhere in the list
-abbrev pub holdsOnly : ℕ → List ℕ → Bool
-holdsOnly x l = every (λ (y : ℕ). eqb y x) l
-
--- sizes past K and rows past N are zero
-abbrev pub trimmed : List ℕ → List ℕ → List ℕ → List ℕ → ℕ → ℕ → Bool
-trimmed sizes kinds homes priorities k n =
-    holdsOnly 0 (drop k sizes)
-    && (holdsOnly 0 (drop n kinds) && (holdsOnly 0 (drop n homes) && holdsOnly 0 (drop n priorities)))
-
--- CLIENTS
-
--- below n, and real-time or best-effort
-module _ (kinds : List ℕ) (n c : ℕ) where
-  abbrev pub realBelow : Bool
-  realBelow = ltb c n && eqb (getD kinds c 0) 0
-
-  abbrev pub effortBelow : Bool
-  effortBelow = ltb c n && not (eqb (getD kinds c 0) 0)
-
-abbrev pub setsOf : List ℕ → List ℕ → ℕ → Clients
-setsOf kinds homes n = record {
-  own = showRooms (λ (c : ℕ). getD homes c 0) (realBelow kinds n);
-  real = setOf maxClients (realBelow kinds n);
-  effort = setOf maxClients (effortBelow kinds n);
-}
 
 -- LINES AND QUEUES
 
@@ -84,3 +56,17 @@ linesSeen sizes own ls =
 -- the set s with those in a queue, each of whom passes the test
 unfoldable pub queueSeen : (ℕ → Bool) → List ℕ → ℕ → Option ℕ
 queueSeen p q s = seenIf (usedFirst q && every p (unpad q)) s (unpad q)
+
+-- WAITING ROOMS
+
+-- the room of a line of m, by the set of those of its cluster
+unfoldable pub roomFits : ℕ → ℕ → ℕ → List ℕ → ℕ → Bool
+roomFits m own standing line room =
+    ltb room (2 ^ maxClients)
+    && (eqb (lessOf room (lessOf own standing)) 0 && (eqb room 0 || leb m (length line)))
+
+unfoldable pub roomsFit : List ℕ → List ℕ → ℕ → List Line → List ℕ → Bool
+roomsFit sizes own standing lines rooms =
+    eqb (length rooms) maxClusters
+    && allBelow maxClusters (λ (k : ℕ).
+    roomFits (getD sizes k 0) (getD own k 0) standing (linesIn lines k) (getD rooms k 0))

@@ -2,14 +2,12 @@
 -- Assumes nothing.
 use Prim.Native.Nat.{ℕ, _≤_}
 use mathlib.Core.List.{List}
-use mathlib.Core.Path.{_≡_, refl, sym, _∙_}
+use mathlib.Core.Path.{_≡_, refl, sym}
 use mathlib.Core.Bool.{true, false}
 use mathlib.Core.Option.{Option, some, none}
-use native.Mathlib.Omega.{arith}
 use lib.ListN.{length}
 use Rattle.rules.specs.Limits.{maxClients, maxClusters}
 use Rattle.rules.specs.Refusals.{unsound}
-use Rattle.rules.specs.Sound.{Sound}
 use Rattle.rules.specs.State.{State}
 use Rattle.rules.specs.Events.{Event}
 use Rattle.rules.specs.Records.{answerOf, stepOf}
@@ -22,12 +20,11 @@ use Rattle.gate.specs.Parts.{gateOf}
 use Rattle.gate.specs.Shown.{serverOf, setupOf, stateOf, shown}
 use Rattle.gate.specs.Shows.{Fine, Homes, ServerFits, Shows}
 use Rattle.gate.proofs.Reading.{laid-shows, shows-is, shown-back}
-use Rattle.gate.proofs.SoundShows.{accepted-fine}
 use Rattle.soundness.specs.Clauses.{soundOf}
 use Rattle.soundness.proofs.Exact.{passed-laid, passed-sound, shown-passes}
-use Rattle.events.specs.Answers.{numberOf, Answers, Holds}
-use Rattle.events.specs.declared.Outcome.{Outcome}
-use Rattle.step.specs.Stepped.{Result, toldIn, ruled, stepped, toldOf, Stands, Steps}
+use Rattle.answers.specs.Answers.{numberOf, Answers, Holds}
+use Rattle.answers.specs.declared.Outcome.{Outcome}
+use Rattle.step.specs.Stepped.{toldIn, ruled, stepped, Stands, Steps}
 use Rattle.step.specs.declared.Answered.{Answered}
 
 module _ {v : Setup} {q : Queues} {cs : List ℕ} (h : Stands v q cs) where

@@ -14,8 +14,8 @@ use Rattle.gate.specs.declared.Gate.{Gate}
 use Rattle.gate.specs.Parts.{gateOf}
 use Rattle.gate.specs.Shown.{setupOf, stateOf, shown}
 use Rattle.soundness.specs.Clauses.{soundOf}
-use Rattle.events.specs.Answers.{numberOf}
-use Rattle.events.specs.declared.Outcome.{Outcome}
+use Rattle.answers.specs.Answers.{numberOf}
+use Rattle.answers.specs.declared.Outcome.{Outcome}
 use Rattle.step.specs.declared.Answered.{Answered}
 
 -- the number that a step answers, and the gate after it

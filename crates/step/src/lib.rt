@@ -1,8 +1,8 @@
 // The public door of the gate: one event or one raw record on any gate whatever, with the check of soundness. Beside it
 // the inner door for callers that hold the parts of a sound gate: the same without the check, and it keeps soundness.
 
-use events::Answer;
-use events::Outcome;
+use answers::Answer;
+use answers::Outcome;
 use gate::Event;
 use gate::Gate;
 use gate::Heard;
@@ -10,7 +10,6 @@ use gate::Queues;
 use gate::Setup;
 use gate::heard_in;
 ghost use mathlib.Core.Path.{_≡_};
-ghost use mathlib.Core.Bool.{true};
 ghost use mathlib.Core.Option.{some};
 ghost use lib.ListN.{length};
 ghost use Rattle.rules.specs.Limits.{maxClients};
@@ -49,8 +48,8 @@ pub fn sound_step<'a>(
 {
     let n = gate::wide(clients);
     match e {
-        Event::Invoke(c) => events::invoke(q, kinds, homes, sizes, n, charges, c),
-        Event::Run(t) => events::run(
+        Event::Invoke(c) => calls::invoke(q, kinds, homes, sizes, n, charges, c),
+        Event::Run(t) => running::run(
             q,
             sizes,
             priorities,
@@ -60,8 +59,8 @@ pub fn sound_step<'a>(
             charges,
             t,
         ),
-        Event::Reply => events::reply(q, homes, sizes, priorities, n),
-        Event::Abort(c) => events::abort(q, kinds, homes, sizes, priorities, n, c),
+        Event::Reply => calls::reply(q, homes, sizes, priorities, n),
+        Event::Abort(c) => calls::abort(q, kinds, homes, sizes, priorities, n, c),
     }
 }
 

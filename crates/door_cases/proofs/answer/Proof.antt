@@ -1,7 +1,6 @@
 -- `door_cases::answer` is safe: the line fits its buffer.
 -- Assumes nothing.
 use mathlib.Core.Path.{sym}
-use native.Mathlib.Omega.{arith}
 use lib.Seq.{length-take-le}
 use borrow.Author.Needs.{needs}
 use Rattle.door_cases.proofs.answer.Statement.{statement}

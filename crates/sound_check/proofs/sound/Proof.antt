@@ -15,8 +15,9 @@ use Rattle.gate.specs.Shown.{serverOf}
 use Rattle.gate.specs.Shows.{Homes}
 use Rattle.soundness.specs.Clauses.{setupSound, soundOf}
 use Rattle.standing.specs.Answers.{seenOf, linesSeen}
-use Rattle.sound_check.specs.Answers.{firstsOf, queuedOf, serverFits, chargesFit}
-use Rattle.sound_check.proofs.Members.{clients}
+use Rattle.fronts.specs.Answers.{firstsOf, queuedOf, serverFits}
+use Rattle.sound_check.specs.Answers.{chargesFit}
+use Rattle.setup_check.proofs.Members.{clients}
 use Rattle.sound_check.proofs.Rest.{passes, fails, ok, fine, restFits, by-lines, by-queue, by-rest}
 use Rattle.sound_check.proofs.sound.Statement.{statement}
 use Rattle.sound_check.proofs.sound.Tie as tie

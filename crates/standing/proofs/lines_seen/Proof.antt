@@ -14,9 +14,10 @@ use Rattle.sets.specs.Sets.{member}
 use Rattle.places.specs.Places.{unpad}
 use Rattle.gate.specs.Shown.{blankLine}
 use Rattle.soundness.specs.Tests.{allBelow, joined}
-use Rattle.standing.specs.Answers.{holdsOnly, linesIn, lineFits, seenFrom}
+use Rattle.places.specs.Places.{holdsOnly}
+use Rattle.standing.specs.Answers.{linesIn, lineFits, seenFrom}
 use Rattle.standing.proofs.Shape.{lines-length, lines-each}
-use Rattle.standing.proofs.Turns.{all-none, all-more, all-done}
+use Rattle.soundness.proofs.Tests.{all-none, all-more, all-done}
 use Rattle.standing.proofs.Queues.{Ended, ended-here, ended-past, lineRest, line-start, line-turn, line-bad}
 use Rattle.standing.proofs.Queues.{line-end, stands-below, stands-new, stands-twice}
 use Rattle.standing.proofs.LineTurns.{joined-turn, joined-end, fits, line-fails, seen-fails, lines-pass}

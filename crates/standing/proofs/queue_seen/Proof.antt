@@ -11,7 +11,8 @@ use borrow.Author.Needs.{needs}
 use borrow.Author.Tests.{not-true, not-false}
 use Rattle.rules.specs.Limits.{unusedPlace}
 use Rattle.sets.specs.Sets.{member}
-use Rattle.standing.specs.Answers.{holdsOnly, queueSeen}
+use Rattle.places.specs.Places.{holdsOnly}
+use Rattle.standing.specs.Answers.{queueSeen}
 use Rattle.standing.proofs.Queues.{queue-turn, queue-bad, queue-twice, queue-end, ended-here, ended-past}
 use Rattle.standing.proofs.queue_seen.Statement.{statement}
 use Rattle.standing.proofs.queue_seen.Tie as tie

@@ -3,7 +3,7 @@
 use mathlib.Core.Path.{refl, sym, _∙_}
 use borrow.Author.Needs.{needs}
 use borrow.Author.Tests.{not-true, not-false}
-use Rattle.events.specs.declared.Answer.the-variants.{Unsound}
+use Rattle.answers.specs.declared.Answer.the-variants.{Unsound}
 use Rattle.step.proofs.Doors.{refused}
 use Rattle.step.proofs.checked_record.Statement.{statement}
 use Rattle.step.proofs.checked_record.Tie as tie

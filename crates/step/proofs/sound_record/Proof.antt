@@ -2,7 +2,7 @@
 -- Assumes nothing.
 use mathlib.Core.Path.{refl}
 use borrow.Author.Needs.{needs}
-use Rattle.events.specs.declared.Answer.the-variants.{Unknown}
+use Rattle.answers.specs.declared.Answer.the-variants.{Unknown}
 use Rattle.step.proofs.Doors.{unheard}
 use Rattle.step.proofs.sound_record.Statement.{statement}
 use Rattle.step.proofs.sound_record.Tie as tie

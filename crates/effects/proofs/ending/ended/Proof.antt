@@ -3,7 +3,7 @@
 use mathlib.Core.Path.{_∙_, _≡_, refl, subst, sym}
 use borrow.Author.Needs.{needs}
 use Rattle.gate.specs.Shown.{serverOf}
-use Rattle.rows.proofs.Service.{served-fits}
+use Rattle.serving.proofs.Service.{served-fits}
 use Rattle.rules.specs.State.{front, spent}
 use Rattle.effects.specs.Finds.{Yields}
 use Rattle.effects.proofs.Leaving.{ended-by, ended-freed, served-front, served-spent, shows-freed}

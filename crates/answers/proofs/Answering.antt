@@ -1,0 +1,39 @@
+-- An event that is refused leaves the parts as they were, and one that is accepted those that show the state after.
+-- Assumes nothing.
+use Prim.Native.Nat.{ℕ}
+use mathlib.Core.List.{List}
+use mathlib.Core.Path.{_∙_, _≡_, sym}
+use borrow.Author.Tests.{eq-eqb, ne-eqb}
+use Rattle.rules.specs.Events.{Event}
+use Rattle.rules.specs.Limits.{maxClients}
+use Rattle.rules.specs.Refusals.{accepted}
+use Rattle.rules.specs.State.{State}
+use Rattle.rules.specs.Step.{answer, next, step}
+use Rattle.gate.specs.Shown.{setupOf, table}
+use Rattle.gate.specs.Shows.{Fine, ShowsQueues}
+use Rattle.gate.specs.declared.Queues.{Queues}
+use Rattle.gate.specs.declared.Setup.{Setup}
+use Rattle.gate.proofs.SoundShows.{accepted-fine}
+use Rattle.answers.specs.Answers.{Answers, Holds, numberOf}
+use Rattle.answers.specs.declared.Answer.{Answer}
+use Rattle.answers.specs.declared.Answer.the-variants as is
+
+module _ {v : Setup} {s : State} {q : Queues} {cs : List ℕ} (h : Holds v s q cs) where
+  pub fine : Fine v
+  fine = accepted-fine v (h .sound .setup) (h .sound .trimmed)
+
+  pub refuses : (e : Event) (a : Answer) → answer (setupOf v) s e ≡ numberOf a → (numberOf a ≡ accepted → ⊥)
+      → Answers v s e (record { answer = a; queues = q }) cs
+  unfolding step
+  refuses e a z n =
+      let w = ne-eqb (answer (setupOf v) s e) accepted (λ y. n (sym z ∙ y)) in
+      record { number = sym z; queues = rw w (h .queues); charges = rw w (h .charges) }
+
+-- an accepted event
+pub accepts : {v : Setup} {s : State} (e : Event) {r : Queues} {cs : List ℕ} → answer (setupOf v) s e ≡ accepted
+    → ShowsQueues v (next (setupOf v) s e) r → cs ≡ table maxClients (next (setupOf v) s e .charge)
+    → Answers v s e (record { answer = is.Accepted; queues = r }) cs
+unfolding step
+accepts {v} {s} e z h f =
+    let w = eq-eqb (answer (setupOf v) s e) accepted z in
+    record { number = sym z; queues = rw w h; charges = rw w f }

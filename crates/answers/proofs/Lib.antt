@@ -1,0 +1,3 @@
+-- What the events' proofs stand on: the parts after an answer; and that no second answer fits.
+pub mod Answering
+pub mod Only

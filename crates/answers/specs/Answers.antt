@@ -1,0 +1,50 @@
+-- The number of each answer, and what the function of an event promises.
+-- Assumes nothing.
+use Prim.Native.Nat.{ℕ}
+use mathlib.Core.Path.{_≡_}
+use mathlib.Core.List.{List}
+use Rattle.rules.specs.Limits.{maxClients}
+use Rattle.rules.specs.Refusals.{accepted, noClient, waitsAlready, serverIdle, runOfNone, runPastCap}
+use Rattle.rules.specs.Refusals.{notWaiting, bestEffort, spentAlready, unknownRecord, unsound}
+use Rattle.rules.specs.State.{State}
+use Rattle.rules.specs.Events.{Event}
+use Rattle.rules.specs.Step.{answer, step}
+use Rattle.rules.specs.Sound.{Sound}
+use Rattle.gate.specs.declared.Setup.{Setup}
+use Rattle.gate.specs.declared.Queues.{Queues}
+use Rattle.gate.specs.Shown.{setupOf, table}
+use Rattle.gate.specs.Shows.{ShowsQueues}
+use Rattle.answers.specs.declared.Answer.{Answer}
+use Rattle.answers.specs.declared.Answer.the-variants as is
+use Rattle.answers.specs.declared.Outcome.{Outcome}
+
+-- Each case's number, by the rules' names.
+abbrev pub numberOf : Answer → ℕ
+numberOf is.Accepted = accepted
+numberOf is.NoClient = noClient
+numberOf is.WaitsAlready = waitsAlready
+numberOf is.ServerIdle = serverIdle
+numberOf is.RunOfNone = runOfNone
+numberOf is.RunPastCap = runPastCap
+numberOf is.NotWaiting = notWaiting
+numberOf is.BestEffort = bestEffort
+numberOf is.SpentAlready = spentAlready
+numberOf is.Unknown = unknownRecord
+numberOf is.Unsound = unsound
+
+-- The parts of a gate of setup v that show the sound state s.
+pub record Holds (v : Setup) (s : State) (q : Queues) (cs : List ℕ) : Type 0 where
+  pub queues : ShowsQueues v s q
+  pub charges : cs ≡ table maxClients (s .charge)
+  pub sound : Sound (setupOf v) s
+
+-- r answers the event e as the rules do in the state s, and its queues, with the charges cs, show the state after.
+pub record Answers (v : Setup) (s : State) (e : Event) (r : Outcome) (cs : List ℕ) : Type 0 where
+  pub number : numberOf (r .answer) ≡ answer (setupOf v) s e
+  pub queues : ShowsQueues v (step (setupOf v) s e) (r .queues)
+  pub charges : cs ≡ table maxClients (step (setupOf v) s e .charge)
+
+-- The promise of an event's function: so it is in every sound state that the queues q and charges cs show, of a setup
+-- of which p holds; cs′ are the charges after.
+abbrev pub Answering : (Setup → Type 0) → Event → Queues → List ℕ → Outcome → List ℕ → Type 0
+Answering p e q cs r cs′ = (v : Setup) (s : State) → p v → Holds v s q cs → Answers v s e r cs′

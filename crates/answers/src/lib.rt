@@ -1,0 +1,45 @@
+// What an event answers, with its number, and what its function returns.
+
+use gate::Queues;
+ghost use mathlib.Core.Path.{_≡_};
+ghost use Rattle.answers.specs.Answers.{numberOf};
+
+// What an event answers. Unknown is for a record that is no event: it comes before there is an event to do.
+pub enum Answer {
+    Accepted,
+    NoClient,
+    WaitsAlready,
+    ServerIdle,
+    RunOfNone,
+    RunPastCap,
+    NotWaiting,
+    BestEffort,
+    SpentAlready,
+    Unknown,
+    Unsound,
+}
+
+// The answer, and the queues after.
+pub struct Outcome {
+    pub answer: Answer,
+    pub queues: Queues,
+}
+
+// An answer's number.
+pub fn number(a: Answer) -> u64
+    ensures { λ r. ⌜ r ≡ numberOf a ⌝ }
+{
+    match a {
+        Answer::Accepted => 0,
+        Answer::NoClient => 10,
+        Answer::WaitsAlready => 11,
+        Answer::ServerIdle => 12,
+        Answer::RunOfNone => 13,
+        Answer::RunPastCap => 14,
+        Answer::NotWaiting => 15,
+        Answer::BestEffort => 16,
+        Answer::SpentAlready => 17,
+        Answer::Unknown => 18,
+        Answer::Unsound => 19,
+    }
+}

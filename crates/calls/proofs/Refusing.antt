@@ -1,0 +1,75 @@
+-- The answers to invoke, reply and abort, from the tests that the code makes, in their order.
+-- Assumes nothing.
+use Prim.Native.Nat.{_<_, _≤_, ℕ}
+use mathlib.Core.Bool.{Bool, false, true, _||_}
+use mathlib.Core.Path.{_≡_}
+use native.Mathlib.Omega.{arith}
+use lib.Dec.{leb}
+use borrow.Author.Tests.{le-leb, lt-leb}
+use Rattle.rules.specs.Events.{abort, invoke, reply}
+use Rattle.rules.specs.Queues.{waits}
+use Rattle.rules.specs.Refusals.{accepted, bestEffort, noClient, notWaiting, serverIdle, spentAlready, waitsAlready}
+use Rattle.rules.specs.Setup.{realTime}
+use Rattle.rules.specs.State.{State, isIdle, isSpent}
+use Rattle.rules.specs.Step.{answer, present}
+use Rattle.gate.specs.Shown.{setupOf}
+use Rattle.gate.specs.declared.Setup.{Setup}
+
+module _ (v : Setup) (s : State) where
+  -- INVOKE
+
+  module _ (c : ℕ) {n i : ℕ} (clients : n ≡ v .clients) (index : i ≡ c) where
+    pub invoke-unknown : n ≤ i → answer (setupOf v) s (invoke c) ≡ noClient
+    unfolding answer
+    invoke-unknown b = rw (le-leb (v .clients) c (omega (arith, clients)))
+
+    pub abort-unknown : n ≤ i → answer (setupOf v) s (abort c) ≡ noClient
+    unfolding answer
+    abort-unknown b = rw (le-leb (v .clients) c (omega (arith, clients)))
+
+    module _ (known : i < n) where
+      known-is : leb (v .clients) c ≡ false
+      known-is = lt-leb (v .clients) c (omega (arith, clients))
+
+      pub invoke-present : {b : Bool} → b ≡ present (setupOf v) s c → b ≡ true
+          → answer (setupOf v) s (invoke c) ≡ waitsAlready
+      unfolding answer
+      invoke-present e t = rw (known-is, ← e, t)
+
+      pub invoke-fine : {b : Bool} → b ≡ present (setupOf v) s c → b ≡ false
+          → answer (setupOf v) s (invoke c) ≡ accepted
+      unfolding answer
+      invoke-fine e t = rw (known-is, ← e, t)
+
+      -- ABORT
+
+      module _ {r : Bool} (kind : r ≡ realTime (setupOf v) c) where
+        pub abort-effort : r ≡ false → answer (setupOf v) s (abort c) ≡ bestEffort
+        unfolding answer
+        abort-effort t = rw (known-is, ← kind, t)
+
+        module _ (real : r ≡ true) {p : Bool} (served : p ≡ isSpent (s .server) c)
+            {w : Bool} (waiting : w ≡ waits (setupOf v) s c) where
+          pub abort-absent : w || p ≡ false → answer (setupOf v) s (abort c) ≡ notWaiting
+          unfolding answer
+          abort-absent t = rw (known-is, ← kind, real, ← served, ← waiting, t)
+
+          module _ (there : w || p ≡ true) where
+            pub abort-spent : p ≡ true → answer (setupOf v) s (abort c) ≡ spentAlready
+            unfolding answer
+            abort-spent t = rw (known-is, ← kind, real, ← served, ← waiting, there, t)
+
+            pub abort-fine : p ≡ false → answer (setupOf v) s (abort c) ≡ accepted
+            unfolding answer
+            abort-fine t = rw (known-is, ← kind, real, ← served, ← waiting, there, t)
+
+  -- REPLY
+
+  module _ {b : Bool} (rests : b ≡ isIdle (s .server)) where
+    pub reply-idle : b ≡ true → answer (setupOf v) s reply ≡ serverIdle
+    unfolding answer
+    reply-idle t = rw (← rests, t)
+
+    pub reply-fine : b ≡ false → answer (setupOf v) s reply ≡ accepted
+    unfolding answer
+    reply-fine t = rw (← rests, t)

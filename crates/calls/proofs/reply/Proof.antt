@@ -1,0 +1,38 @@
+-- `calls::reply` meets its contract: 12, or the reply.
+-- Assumes nothing.
+use mathlib.Core.Path.{_∙_, ap}
+use native.Mathlib.Omega.{arith}
+use borrow.Author.Needs.{needs}
+use Rattle.effects.proofs.Found.{yields}
+use Rattle.rules.specs.Events.{reply}
+use Rattle.rules.specs.State.{isIdle}
+use Rattle.rules.specs.Step.{next}
+use Rattle.answers.specs.declared.Answer.the-variants.{ServerIdle}
+use Rattle.answers.proofs.Answering.{accepts, fine, refuses}
+use Rattle.calls.proofs.Charges.{reply-charge}
+use Rattle.calls.proofs.Refusing.{reply-fine, reply-idle}
+use Rattle.calls.proofs.reply.Statement.{statement}
+use Rattle.calls.proofs.reply.Tie as tie
+
+is-idle-requires : tie.Need-is-idle-requires
+is-idle-requires c κs = search needs
+
+returns : tie.Need-returns
+returns c =
+    λ cs v s e h.
+    refuses h reply ServerIdle (reply-idle v s (c .before .is-idle .ensures ∙ ap isIdle (h .queues .service .server))
+    (c .if1 .taken)) (λ z. omega arith)
+
+replied-requires : tie.Need-replied-requires
+replied-requires c κs = search needs
+
+returns-2 : tie.Need-returns-2
+unfolding next
+returns-2 c =
+    λ cs v s e h.
+    accepts reply (reply-fine v s (c .before .before .is-idle .ensures ∙ ap isIdle (h .queues .service .server))
+    (c .before .if1 .left))
+    (c .replied .ensures v s (fine h) (e .0, e .1, yields v s (h .sound)) (h .queues)) (reply-charge h)
+
+pub reply-spec : {M : Type 1} → statement M
+reply-spec = tie.close (tie.spec is-idle-requires returns replied-requires returns-2)

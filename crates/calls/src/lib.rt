@@ -1,0 +1,156 @@
+// Invoke, reply and abort on a gate's parts. Each answers as the rules do, and leaves the parts that show the state
+// after: a refused event leaves them as they were. Reply and abort have nothing to do with the charges.
+
+use answers::Answer;
+use answers::Outcome;
+use gate::Client;
+use gate::Queues;
+ghost use mathlib.Core.Path.{_≡_};
+ghost use mathlib.Core.Bool.{cond};
+ghost use mathlib.Core.List.{List};
+ghost use Prim.Native.Nat.{ℕ, _≤_, _<_};
+ghost use lib.Dec.{eqb};
+ghost use lib.ListN.{getD, set};
+ghost use Rattle.rules.specs.Limits.{maxClients};
+ghost use Rattle.rules.specs.Events as rules;
+ghost use Rattle.gate.specs.Shown.{serverOf};
+ghost use Rattle.gate.specs.Shows.{Homes, Lent, ServerFits};
+ghost use Rattle.answers.specs.Answers.{Answering};
+
+// INVOKE
+
+// The charge of a real-time client becomes 0.
+fn begun(charges: &mut [u32; 64], kinds: &[u8; 64], c: Client)
+    requires { ⌜ c .0 < maxClients ⌝ }
+    ensures { λ _.
+        ⌜ now (charges .exit) ≡ cond (eqb (getD (now (kinds .entry)) (c .0) 0) 0)
+        (set (now (charges .entry)) (c .0) 0) (now (charges .entry)) ⌝ }
+{
+    if rows::is_real_time(kinds, c) {
+        charging::reset(charges, c);
+    }
+}
+
+// Invoke c: 10, 11.
+pub fn invoke<'a>(
+    q: Queues,
+    kinds: &'a [u8; 64],
+    homes: &'a [u8; 64],
+    sizes: &'a [u8; 8],
+    clients: usize,
+    charges: &mut [u32; 64],
+    c: Client,
+) -> Outcome
+    requires { ⌜ Homes (now homes) × (clients ≤ maxClients) ⌝ }
+    ensures { λ r.
+        ⌜ Answering (λ v. (now (kinds .entry) ≡ v .kinds) × (now (homes .entry) ≡ v .homes)
+        × (now (sizes .entry) ≡ v .sizes) × (clients ≡ v .clients))
+        (rules.invoke (c .0)) q (now (charges .entry)) r (now (charges .exit)) ⌝ }
+{
+    if clients <= rows::index(c) {
+        return Outcome {
+            answer: Answer::NoClient,
+            queues: q,
+        };
+    }
+    let k = rows::home(homes, c);
+    let i = k.0;
+    let line = q.lines[i];
+    let y = q.service;
+    let server = y.server;
+    if presence::present(line, q.rooms[i], &q.background, server, c) {
+        return Outcome {
+            answer: Answer::WaitsAlready,
+            queues: q,
+        };
+    }
+    begun(charges, kinds, c);
+    let n = effects::invoked(q, kinds, homes, sizes, c);
+    Outcome {
+        answer: Answer::Accepted,
+        queues: n,
+    }
+}
+
+// REPLY AND ABORT
+
+// Reply: 12.
+pub fn reply<'a>(
+    q: Queues,
+    homes: &'a [u8; 64],
+    sizes: &'a [u8; 8],
+    priorities: &'a [u16; 64],
+    clients: usize,
+) -> Outcome
+    requires { ⌜ ServerFits (serverOf (q .service .server)) × Homes (now homes) × (clients ≤ maxClients) ⌝ }
+    ensures { λ r.
+        ⌜ ((cs : List ℕ) → Answering (λ v. (now (homes .entry) ≡ v .homes)
+        × Lent v (now (sizes .entry)) (now (priorities .entry)) clients) rules.reply q cs r cs) ⌝ }
+{
+    let y = q.service;
+    let server = y.server;
+    if serving::is_idle(server) {
+        return Outcome {
+            answer: Answer::ServerIdle,
+            queues: q,
+        };
+    }
+    let n = effects::replied(q, homes, sizes, priorities, clients);
+    Outcome {
+        answer: Answer::Accepted,
+        queues: n,
+    }
+}
+
+// Abort c: 10, 16, 15, 17.
+pub fn abort<'a>(
+    q: Queues,
+    kinds: &'a [u8; 64],
+    homes: &'a [u8; 64],
+    sizes: &'a [u8; 8],
+    priorities: &'a [u16; 64],
+    clients: usize,
+    c: Client,
+) -> Outcome
+    requires { ⌜ Homes (now homes) × (clients ≤ maxClients) ⌝ }
+    ensures { λ r.
+        ⌜ ((cs : List ℕ) → Answering (λ v. (now (kinds .entry) ≡ v .kinds) × (now (homes .entry) ≡ v .homes)
+        × Lent v (now (sizes .entry)) (now (priorities .entry)) clients) (rules.abort (c .0)) q cs r cs) ⌝ }
+{
+    if clients <= rows::index(c) {
+        return Outcome {
+            answer: Answer::NoClient,
+            queues: q,
+        };
+    }
+    if !rows::is_real_time(kinds, c) {
+        return Outcome {
+            answer: Answer::BestEffort,
+            queues: q,
+        };
+    }
+    let k = rows::home(homes, c);
+    let i = k.0;
+    let line = q.lines[i];
+    let y = q.service;
+    let server = y.server;
+    let spent = serving::is_spent(server, rows::index(c));
+    let waits = presence::waits(line, q.rooms[i], c);
+    if !(waits | spent) {
+        return Outcome {
+            answer: Answer::NotWaiting,
+            queues: q,
+        };
+    }
+    if spent {
+        return Outcome {
+            answer: Answer::SpentAlready,
+            queues: q,
+        };
+    }
+    let n = effects::aborted(q, homes, sizes, priorities, clients, c);
+    Outcome {
+        answer: Answer::Accepted,
+        queues: n,
+    }
+}

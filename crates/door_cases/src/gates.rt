@@ -1,0 +1,191 @@
+// A gate as bytes: every field in its turn, numbers with their low byte first. K, N, L, 8 sizes, 64 kinds, 64 clusters,
+// 64 priorities, 8 lines of 8 places, 8 waiting rooms, 8 places of the global queue, 64 of the background queue, the
+// server's case and its client (0 when idle), the units served, 64 charges.
+
+use gate::Client;
+use gate::Gate;
+use gate::Line;
+use gate::Server;
+use gate::Setup;
+use layout::byte_at;
+use layout::word_at;
+ghost use Prim.Native.Nat.{_<_};
+
+// The bytes of a gate.
+pub const GATE: usize = 731;
+
+// Where each field begins.
+pub const SIZES: usize = 4;
+
+pub const KINDS: usize = 12;
+
+pub const HOMES: usize = 76;
+
+pub const PRIORITIES: usize = 140;
+
+pub const LINES: usize = 268;
+
+pub const ROOMS: usize = 332;
+
+pub const GLOBAL: usize = 396;
+
+pub const BACKGROUND: usize = 404;
+
+pub const SERVER: usize = 468;
+
+pub const UNITS: usize = 471;
+
+pub const CHARGES: usize = 475;
+
+fn long(low: u16, high: u16) -> u32 {
+    low as u32 + 65536 * (high as u32)
+}
+
+// 32 bits.
+fn long_at(b: &[u8], i: usize) -> u32
+    requires { ⌜ i < 1000 ⌝ }
+{
+    long(word_at(b, i), word_at(b, i + 2))
+}
+
+fn set(low: u32, high: u32) -> u64 {
+    low as u64 + 4294967296 * (high as u64)
+}
+
+// 64 bits.
+fn set_at(b: &[u8], i: usize) -> u64
+    requires { ⌜ i < 900 ⌝ }
+{
+    set(long_at(b, i), long_at(b, i + 4))
+}
+
+fn eight_at(b: &[u8], i: usize) -> [u8; 8]
+    requires { ⌜ i < 1000 ⌝ }
+{
+    [
+        byte_at(b, i),
+        byte_at(b, i + 1),
+        byte_at(b, i + 2),
+        byte_at(b, i + 3),
+        byte_at(b, i + 4),
+        byte_at(b, i + 5),
+        byte_at(b, i + 6),
+        byte_at(b, i + 7),
+    ]
+}
+
+fn line_at(b: &[u8], i: usize) -> Line
+    requires { ⌜ i < 1000 ⌝ }
+{
+    let places = eight_at(b, i);
+    Line { places: places }
+}
+
+fn lines_in(b: &[u8]) -> [Line; 8] {
+    [
+        line_at(b, LINES),
+        line_at(b, LINES + 8),
+        line_at(b, LINES + 16),
+        line_at(b, LINES + 24),
+        line_at(b, LINES + 32),
+        line_at(b, LINES + 40),
+        line_at(b, LINES + 48),
+        line_at(b, LINES + 56),
+    ]
+}
+
+fn rooms_in(b: &[u8]) -> [u64; 8] {
+    [
+        set_at(b, ROOMS),
+        set_at(b, ROOMS + 8),
+        set_at(b, ROOMS + 16),
+        set_at(b, ROOMS + 24),
+        set_at(b, ROOMS + 32),
+        set_at(b, ROOMS + 40),
+        set_at(b, ROOMS + 48),
+        set_at(b, ROOMS + 56),
+    ]
+}
+
+// 1 a front, 2 a best-effort client, 3 a spent client; idle for 0, and for what is no case.
+fn server_in(b: &[u8]) -> Server {
+    let code = byte_at(b, SERVER);
+    let c = Client(word_at(b, SERVER + 1));
+    if code == 1 {
+        return Server::Front(c);
+    }
+    if code == 2 {
+        return Server::Best(c);
+    }
+    if code == 3 {
+        return Server::Spent(c);
+    }
+    Server::Idle
+}
+
+// The gate of some bytes, but for its columns of 64.
+fn without_columns(b: &[u8]) -> Gate {
+    let sizes = eight_at(b, SIZES);
+    let kinds = [0u8; 64];
+    let homes = [0u8; 64];
+    let priorities = [0u16; 64];
+    let setup = Setup {
+        clusters: byte_at(b, 0),
+        clients: byte_at(b, 1),
+        cap: word_at(b, 2),
+        sizes: sizes,
+        kinds: kinds,
+        homes: homes,
+        priorities: priorities,
+    };
+    let lines = lines_in(b);
+    let rooms = rooms_in(b);
+    let global = eight_at(b, GLOBAL);
+    let background = [0u8; 64];
+    let server = server_in(b);
+    let charges = [0u32; 64];
+    Gate {
+        setup: setup,
+        lines: lines,
+        rooms: rooms,
+        global: global,
+        background: background,
+        server: server,
+        units: long_at(b, UNITS),
+        charges: charges,
+    }
+}
+
+// A setup with row i as the bytes have it.
+fn with_row(s: Setup, b: &[u8], i: usize) -> Setup
+    requires { ⌜ i < 64 ⌝ }
+{
+    let mut filled = s;
+    filled.kinds[i] = byte_at(b, KINDS + i);
+    filled.homes[i] = byte_at(b, HOMES + i);
+    filled.priorities[i] = word_at(b, PRIORITIES + 2 * i);
+    filled
+}
+
+// A gate with place i of each of its columns of 64 as the bytes have it.
+fn with_places(g: Gate, b: &[u8], i: usize) -> Gate
+    requires { ⌜ i < 64 ⌝ }
+{
+    let setup = with_row(g.setup, b, i);
+    let mut filled = g;
+    filled.setup = setup;
+    filled.background[i] = byte_at(b, BACKGROUND + i);
+    filled.charges[i] = long_at(b, CHARGES + 4 * i);
+    filled
+}
+
+// The gate of some bytes.
+pub fn gate_in(b: &[u8]) -> Gate {
+    let mut g = without_columns(b);
+    let mut i: usize = 0;
+    while i < Gate::MAX_CLIENTS {
+        g = with_places(g, b, i);
+        i += 1;
+    }
+    g
+}

@@ -1,0 +1,2 @@
+-- What the search for the highest in rank stands on.
+pub mod Ranks

@@ -1,0 +1,2 @@
+-- What rank is read as. Nothing is proved here.
+pub mod Ranks

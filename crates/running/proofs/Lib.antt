@@ -1,0 +1,2 @@
+-- What the proofs of a run stand on.
+pub mod Running

@@ -1,0 +1,2 @@
+-- The tests of the one in service.
+pub mod Service
