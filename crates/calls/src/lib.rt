@@ -65,7 +65,7 @@ pub fn invoke<'a>(
         };
     }
     begun(charges, kinds, c);
-    let n = effects::invoked(q, kinds, homes, sizes, c);
+    let n = entering::invoked(q, kinds, homes, sizes, c);
     Outcome {
         answer: Answer::Accepted,
         queues: n,
@@ -95,7 +95,7 @@ pub fn reply<'a>(
             queues: q,
         };
     }
-    let n = effects::replied(q, homes, sizes, priorities, clients);
+    let n = leaving::replied(q, homes, sizes, priorities, clients);
     Outcome {
         answer: Answer::Accepted,
         queues: n,
@@ -148,7 +148,7 @@ pub fn abort<'a>(
             queues: q,
         };
     }
-    let n = effects::aborted(q, homes, sizes, priorities, clients, c);
+    let n = leaving::aborted(q, homes, sizes, priorities, clients, c);
     Outcome {
         answer: Answer::Accepted,
         queues: n,

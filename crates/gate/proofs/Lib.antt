@@ -5,6 +5,7 @@ pub mod Making
 pub mod Tables
 pub mod Reading
 pub mod SoundShows
+pub mod Turns
 pub mod Fits
 pub mod Parts
 pub mod Only

@@ -4,7 +4,7 @@ use mathlib.Core.Path.{_∙_, ap}
 use native.Mathlib.Omega.{arith}
 use borrow.Author.Needs.{needs}
 use borrow.Author.Tests.{not-false, not-true}
-use Rattle.effects.proofs.Found.{turn}
+use Rattle.leaving.proofs.Found.{turn}
 use Rattle.presence.proofs.Here.{waits-is}
 use Rattle.rules.specs.Events.{abort}
 use Rattle.rules.specs.State.{isSpent}

@@ -3,7 +3,7 @@
 use mathlib.Core.Path.{_∙_}
 use native.Mathlib.Omega.{arith}
 use borrow.Author.Needs.{needs}
-use Rattle.effects.proofs.Found.{ready}
+use Rattle.entering.proofs.Found.{ready}
 use Rattle.gate.specs.Shown.{setupOf}
 use Rattle.presence.proofs.Here.{present-is}
 use Rattle.rules.proofs.Answers.{invoke-accepted}

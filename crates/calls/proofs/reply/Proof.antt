@@ -3,7 +3,7 @@
 use mathlib.Core.Path.{_∙_, ap}
 use native.Mathlib.Omega.{arith}
 use borrow.Author.Needs.{needs}
-use Rattle.effects.proofs.Found.{yields}
+use Rattle.leaving.proofs.Found.{yields}
 use Rattle.rules.specs.Events.{reply}
 use Rattle.rules.specs.State.{isIdle}
 use Rattle.rules.specs.Step.{next}

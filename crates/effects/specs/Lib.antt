@@ -1,2 +1,0 @@
--- What the events are promised in. Nothing is proved here.
-pub mod Finds

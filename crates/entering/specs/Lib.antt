@@ -1,0 +1,2 @@
+-- What invoke is promised in. Nothing is proved here.
+pub mod Finds

@@ -1,0 +1,2 @@
+-- What reply and abort are promised in. Nothing is proved here.
+pub mod Finds

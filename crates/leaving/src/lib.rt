@@ -1,0 +1,207 @@
+// Who leaves: what an accepted reply and abort do to the queues.
+
+use gate::Client;
+use gate::Queues;
+use gate::Server;
+ghost use mathlib.Core.Path.{_≡_};
+ghost use Prim.Native.Nat.{_≤_, _<_};
+ghost use lib.ListN.{length};
+ghost use Rattle.rules.specs.Limits.{maxClusters, maxClients};
+ghost use Rattle.rules.specs.Lists.{remove};
+ghost use Rattle.rules.specs.State.{front, spent};
+ghost use Rattle.rules.specs.Rank.{outranks};
+ghost use Rattle.rules.specs.Queues.{queue};
+ghost use Rattle.rules.specs.Events as rules;
+ghost use Rattle.places.specs.Places.{takeOutOf};
+ghost use Rattle.gate.specs.declared.Server.the-variants.{Idle};
+ghost use Rattle.gate.specs.Parts.{putGlobal, putServer};
+ghost use Rattle.gate.specs.Shown.{serverOf};
+ghost use Rattle.gate.specs.Shows.{Homes, Lent, ServerFits, Leaves};
+ghost use Rattle.leaving.specs.Finds.{ends, Turn, Yields};
+
+// LEAVING
+
+// c leaves its line, then refill.
+fn gone<'a>(
+    q: Queues,
+    homes: &'a [u8; 64],
+    sizes: &'a [u8; 8],
+    priorities: &'a [u16; 64],
+    clients: usize,
+    c: Client,
+) -> Queues
+    requires { ⌜ (c .0 < maxClients) × Homes (now homes) × (clients ≤ maxClients) ⌝ }
+    ensures { λ r.
+        ⌜ Leaves (λ v s. (now (homes .entry) ≡ v .homes)
+        × Lent v (now (sizes .entry)) (now (priorities .entry)) clients)
+        (λ u s. rules.gone u (outranks u s) (c .0) s) q r ⌝ }
+{
+    let k = rows::home(homes, c);
+    let i = k.0;
+    let line = q.lines[i];
+    let rest = rows::shorter(line, rows::byte(c));
+    let mut n = q;
+    n.lines[i] = rest;
+    moves::refilled(n, sizes, priorities, clients, k)
+}
+
+// REPLY
+
+// The request in service has ended, and nobody is picked yet.
+fn freed(q: Queues) -> Queues
+    ensures { λ r. ⌜ r ≡ putServer Idle (q .service .units) q ⌝ }
+{
+    let y = q.service;
+    moves::served(q, Server::Idle, y.units)
+}
+
+// The request of a front ends: it leaves its line, then refill, and the next front joins the global queue.
+fn front_ended<'a>(
+    q: Queues,
+    homes: &'a [u8; 64],
+    sizes: &'a [u8; 8],
+    priorities: &'a [u16; 64],
+    clients: usize,
+    c: Client,
+) -> Queues
+    requires { ⌜ (c .0 < maxClients) × Homes (now homes) × (clients ≤ maxClients) ⌝ }
+    ensures { λ r.
+        ⌜ Leaves (λ v s. (now (homes .entry) ≡ v .homes) × Lent v (now (sizes .entry)) (now (priorities .entry)) clients
+        × (length (s .global) < maxClusters)) (λ u s. rules.ended u (outranks u s) (front (c .0)) s) q r ⌝ }
+{
+    let k = rows::home(homes, c);
+    moves::queued(
+        gone(freed(q), homes, sizes, priorities, clients, c),
+        homes,
+        k,
+    )
+}
+
+// The request of a spent client ends: its cluster stops being blocked, and the front there joins the global queue.
+fn spent_ended(q: Queues, homes: &[u8; 64], c: Client) -> Queues
+    requires { ⌜ (c .0 < maxClients) × Homes (now homes) ⌝ }
+    ensures { λ r.
+        ⌜ Leaves (λ v s. (now (homes .entry) ≡ v .homes) × (length (s .global) < maxClusters))
+        (λ u s. rules.ended u (outranks u s) (spent (c .0)) s) q r ⌝ }
+{
+    let k = rows::home(homes, c);
+    let free = freed(q);
+    moves::queued(free, homes, k)
+}
+
+// The served request ends.
+fn ended<'a>(
+    q: Queues,
+    homes: &'a [u8; 64],
+    sizes: &'a [u8; 8],
+    priorities: &'a [u16; 64],
+    clients: usize,
+) -> Queues
+    requires { ⌜ ServerFits (serverOf (q .service .server)) × Homes (now homes) × (clients ≤ maxClients) ⌝ }
+    ensures { λ r.
+        ⌜ Leaves (λ v s. (now (homes .entry) ≡ v .homes) × Lent v (now (sizes .entry)) (now (priorities .entry)) clients
+        × Yields (s .server) (s .global)) (λ u s. ends u s) q r ⌝ }
+{
+    let y = q.service;
+    let server = y.server;
+    let c = serving::served(server);
+    if serving::as_front(server) {
+        return front_ended(q, homes, sizes, priorities, clients, c);
+    }
+    if serving::as_spent(server) {
+        return spent_ended(q, homes, c);
+    }
+    freed(q)
+}
+
+// Reply: that, then pick.
+pub fn replied<'a>(
+    q: Queues,
+    homes: &'a [u8; 64],
+    sizes: &'a [u8; 8],
+    priorities: &'a [u16; 64],
+    clients: usize,
+) -> Queues
+    requires { ⌜ ServerFits (serverOf (q .service .server)) × Homes (now homes) × (clients ≤ maxClients) ⌝ }
+    ensures { λ r.
+        ⌜ Leaves (λ v s. (now (homes .entry) ≡ v .homes) × Lent v (now (sizes .entry)) (now (priorities .entry)) clients
+        × Yields (s .server) (s .global)) (λ u s. rules.replied u (outranks u s) s) q r ⌝ }
+{
+    let next = ended(q, homes, sizes, priorities, clients);
+    moves::picked(next)
+}
+
+// ABORT
+
+// c leaves the global queue, and the others keep their order.
+fn unqueued(q: Queues, c: Client) -> Queues
+    requires { ⌜ c .0 < maxClients ⌝ }
+    ensures { λ r. ⌜ r ≡ putGlobal (takeOutOf (c .0) (q .global)) q ⌝ }
+{
+    let mut fronts = q.global;
+    places::take_out(&mut fronts, rows::byte(c));
+    let mut n = q;
+    n.global = fronts;
+    n
+}
+
+// A front that is not in service leaves line and global queue, and the new front joins the end of that queue.
+fn front_aborted<'a>(
+    q: Queues,
+    homes: &'a [u8; 64],
+    sizes: &'a [u8; 8],
+    priorities: &'a [u16; 64],
+    clients: usize,
+    c: Client,
+) -> Queues
+    requires { ⌜ (c .0 < maxClients) × Homes (now homes) × (clients ≤ maxClients) ⌝ }
+    ensures { λ r.
+        ⌜ Leaves (λ v s. (now (homes .entry) ≡ v .homes) × Lent v (now (sizes .entry)) (now (priorities .entry)) clients
+        × (length (remove (c .0) (s .global)) < maxClusters))
+        (λ u s. queue u (u .cluster (c .0)) (rules.gone u (outranks u s) (c .0) (rules.unqueue (c .0) s))) q r ⌝ }
+{
+    let k = rows::home(homes, c);
+    moves::queued(
+        gone(unqueued(q, c), homes, sizes, priorities, clients, c),
+        homes,
+        k,
+    )
+}
+
+// Abort c. In the waiting room: leaves. Front in service: leaves the line, and stays in service as spent. Front and
+// not in service: leaves line and global queue. In the line but not front: leaves.
+pub fn aborted<'a>(
+    q: Queues,
+    homes: &'a [u8; 64],
+    sizes: &'a [u8; 8],
+    priorities: &'a [u16; 64],
+    clients: usize,
+    c: Client,
+) -> Queues
+    requires { ⌜ (c .0 < maxClients) × Homes (now homes) × (clients ≤ maxClients) ⌝ }
+    ensures { λ r.
+        ⌜ Leaves (λ v s. (now (homes .entry) ≡ v .homes) × Lent v (now (sizes .entry)) (now (priorities .entry)) clients
+        × Turn v s (c .0)) (λ u s. rules.aborted u (outranks u s) (c .0) s) q r ⌝ }
+{
+    let k = rows::home(homes, c);
+    let i = k.0;
+    let at = rows::index(c);
+    let room = q.rooms[i];
+    if sets::member(room, at) {
+        let mut n = q;
+        let rest = sets::without(room, at);
+        n.rooms[i] = rest;
+        return n;
+    }
+    let y = q.service;
+    let server = y.server;
+    if serving::is_front(server, at) {
+        let n = moves::served(q, Server::Spent(c), y.units);
+        return gone(n, homes, sizes, priorities, clients, c);
+    }
+    let line = q.lines[i];
+    if rows::front(line) == rows::byte(c) {
+        return front_aborted(q, homes, sizes, priorities, clients, c);
+    }
+    gone(q, homes, sizes, priorities, clients, c)
+}
