@@ -10,10 +10,10 @@ use Rattle.rules.specs.Refusals.{accepted}
 use Rattle.rules.specs.State.{State}
 use Rattle.rules.specs.Step.{answer, next, step}
 use Rattle.gate.specs.Shown.{setupOf, table}
-use Rattle.gate.specs.Shows.{Fine, ShowsQueues}
-use Rattle.gate.specs.declared.Queues.{Queues}
+use Rattle.parts.specs.Shows.{Fine, ShowsQueues}
+use Rattle.parts.specs.declared.Queues.{Queues}
 use Rattle.gate.specs.declared.Setup.{Setup}
-use Rattle.gate.proofs.SoundShows.{accepted-fine}
+use Rattle.parts.proofs.SoundShows.{accepted-fine}
 use Rattle.answers.specs.Answers.{Answers, Holds, numberOf}
 use Rattle.answers.specs.declared.Answer.{Answer}
 use Rattle.answers.specs.declared.Answer.the-variants as is

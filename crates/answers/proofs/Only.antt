@@ -9,9 +9,9 @@ use Rattle.rules.specs.Events.{Event}
 use Rattle.rules.specs.Refusals.{accepted, bestEffort, noClient, notWaiting, runOfNone, runPastCap, serverIdle}
 use Rattle.rules.specs.Refusals.{spentAlready, unknownRecord, waitsAlready}
 use Rattle.rules.specs.State.{State}
-use Rattle.gate.specs.declared.Queues.{Queues}
+use Rattle.parts.specs.declared.Queues.{Queues}
 use Rattle.gate.specs.declared.Setup.{Setup}
-use Rattle.gate.proofs.Reading.{one-queues}
+use Rattle.parts.proofs.Reading.{one-queues}
 use Rattle.answers.specs.Answers.{Answers, numberOf}
 use Rattle.answers.specs.declared.Answer.{Answer}
 use Rattle.answers.specs.declared.Outcome.{Outcome}

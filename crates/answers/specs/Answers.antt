@@ -11,9 +11,9 @@ use Rattle.rules.specs.Events.{Event}
 use Rattle.rules.specs.Step.{answer, step}
 use Rattle.rules.specs.Sound.{Sound}
 use Rattle.gate.specs.declared.Setup.{Setup}
-use Rattle.gate.specs.declared.Queues.{Queues}
+use Rattle.parts.specs.declared.Queues.{Queues}
 use Rattle.gate.specs.Shown.{setupOf, table}
-use Rattle.gate.specs.Shows.{ShowsQueues}
+use Rattle.parts.specs.Shows.{ShowsQueues}
 use Rattle.answers.specs.declared.Answer.{Answer}
 use Rattle.answers.specs.declared.Answer.the-variants as is
 use Rattle.answers.specs.declared.Outcome.{Outcome}

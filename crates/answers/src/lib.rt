@@ -1,6 +1,6 @@
 // What an event answers, with its number, and what its function returns.
 
-use gate::Queues;
+use parts::Queues;
 ghost use mathlib.Core.Path.{_≡_};
 ghost use Rattle.answers.specs.Answers.{numberOf};
 

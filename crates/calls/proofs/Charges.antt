@@ -17,7 +17,7 @@ use Rattle.rules.specs.Step.{next}
 use Rattle.rules.proofs.Charge.{next-charge}
 use Rattle.rules.proofs.Tests.{by-test}
 use Rattle.gate.specs.Shown.{setupOf, table}
-use Rattle.gate.specs.declared.Queues.{Queues}
+use Rattle.parts.specs.declared.Queues.{Queues}
 use Rattle.gate.specs.declared.Setup.{Setup}
 use Rattle.gate.proofs.Tables.{set-table, table-same}
 use Rattle.answers.specs.Answers.{Holds}

@@ -4,7 +4,7 @@
 use answers::Answer;
 use answers::Outcome;
 use gate::Client;
-use gate::Queues;
+use parts::Queues;
 ghost use mathlib.Core.Path.{_≡_};
 ghost use mathlib.Core.Bool.{cond};
 ghost use mathlib.Core.List.{List};
@@ -14,7 +14,7 @@ ghost use lib.ListN.{getD, set};
 ghost use Rattle.rules.specs.Limits.{maxClients};
 ghost use Rattle.rules.specs.Events as rules;
 ghost use Rattle.gate.specs.Shown.{serverOf};
-ghost use Rattle.gate.specs.Shows.{Homes, Lent, ServerFits};
+ghost use Rattle.parts.specs.Shows.{Homes, Lent, ServerFits};
 ghost use Rattle.answers.specs.Answers.{Answering};
 
 // INVOKE

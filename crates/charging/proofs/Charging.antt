@@ -21,10 +21,10 @@ use Rattle.rules.proofs.Tests.{both-true, by-test, either-true, not-so}
 use Rattle.sets.specs.Sets.{member, setOf, unionOf}
 use Rattle.sets.proofs.Laws.{member-setOf, setOf-cut}
 use Rattle.gate.specs.Shown.{setupOf, showRooms}
-use Rattle.gate.specs.Shows.{ShowsLines}
+use Rattle.parts.specs.Shows.{ShowsLines}
 use Rattle.gate.specs.declared.Line.{Line}
 use Rattle.gate.specs.declared.Setup.{Setup}
-use Rattle.gate.proofs.Parts.{has-is, line-at, room-at}
+use Rattle.parts.proofs.Parts.{has-is, line-at, room-at}
 use Rattle.ranks.proofs.Ranks.{rank-is}
 use Rattle.charging.specs.Charged.{chargedIn, precedesIn, waitingIn}
 use Rattle.charging.proofs.Building.{count-same, union-all, union-next, union-none}

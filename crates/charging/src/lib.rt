@@ -17,7 +17,7 @@ ghost use Rattle.rules.specs.Sound.{Sound};
 ghost use Rattle.sets.specs.Sets.{setOf, withOf};
 ghost use Rattle.gate.specs.declared.Setup as given;
 ghost use Rattle.gate.specs.Shown.{setupOf, showRooms};
-ghost use Rattle.gate.specs.Shows.{ShowsLines};
+ghost use Rattle.parts.specs.Shows.{ShowsLines};
 ghost use Rattle.charging.specs.Charged.{waitingIn, precedesIn, chargedIn, overchargesIn, grownAt, grown};
 
 // WHO WAITS

@@ -26,7 +26,7 @@ use Rattle.gate.specs.Shown.{setupOf, shown}
 use Rattle.gate.specs.Made.{trimmedIn, made}
 use Rattle.gate.proofs.Making.{made-shown}
 use Rattle.gate.proofs.Tables.{table-at}
-use Rattle.gate.proofs.SoundShows.{fresh-sound}
+use Rattle.parts.proofs.SoundShows.{fresh-sound}
 use Rattle.step.specs.Stepped.{Result, stepped}
 use Rattle.demands.specs.Histories.{gateAfter, answerAfter, chargeAfter}
 use Rattle.demands.proofs.Steps.{step-shown}

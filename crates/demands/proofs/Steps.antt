@@ -8,8 +8,8 @@ use Rattle.rules.specs.Events.{Event}
 use Rattle.rules.specs.Records.{answerOf, stepOf}
 use Rattle.gate.specs.declared.Setup.{Setup}
 use Rattle.gate.specs.Shown.{setupOf, stateOf, shown}
-use Rattle.gate.proofs.Reading.{shown-setup}
-use Rattle.gate.proofs.SoundShows.{sound-back}
+use Rattle.parts.proofs.Reading.{shown-setup}
+use Rattle.parts.proofs.SoundShows.{sound-back}
 use Rattle.soundness.proofs.Exact.{shown-passes}
 use Rattle.step.specs.Stepped.{Result, stepped}
 use Rattle.step.proofs.Doors.{step-sound}

@@ -14,13 +14,13 @@ use Rattle.rules.specs.State.{Server, State, best, front, idle, isIdle, spent}
 use Rattle.rules.proofs.Tests.{clash}
 use Rattle.sets.specs.Sets.{withOf}
 use Rattle.places.specs.Places.{appendOf, usedOf}
-use Rattle.gate.specs.Parts.{putLine, putRoom}
+use Rattle.parts.specs.Parts.{putLine, putRoom}
 use Rattle.gate.specs.Shown.{setupOf}
-use Rattle.gate.specs.Shows.{Fine, ShowsQueues}
+use Rattle.parts.specs.Shows.{Fine, ShowsQueues}
 use Rattle.gate.specs.declared.Line.{Line}
-use Rattle.gate.specs.declared.Queues.{Queues}
+use Rattle.parts.specs.declared.Queues.{Queues}
 use Rattle.gate.specs.declared.Setup.{Setup}
-use Rattle.gate.proofs.Parts.{appended, line-at, shows-charge, shows-line, shows-room, used-is}
+use Rattle.parts.proofs.Parts.{appended, line-at, shows-charge, shows-line, shows-room, used-is}
 use Rattle.rows.specs.Homes.{Home}
 use Rattle.presence.proofs.Here.{own-line}
 

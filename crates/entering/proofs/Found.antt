@@ -19,7 +19,7 @@ use Rattle.rules.proofs.Setups.{allowed}
 use Rattle.rules.proofs.Tests.{either-true}
 use Rattle.gate.specs.Shown.{setupOf}
 use Rattle.gate.specs.declared.Setup.{Setup}
-use Rattle.gate.proofs.Turns.{fine, turn-free, front-there}
+use Rattle.parts.proofs.Turns.{fine, turn-free, front-there}
 use Rattle.entering.specs.Finds.{Ready}
 
 module _ (v : Setup) (s : State) (sound : Sound (setupOf v) s) where

@@ -1,12 +1,12 @@
 // Who enters: what an accepted invoke does to the queues.
 
 use gate::Client;
-use gate::Queues;
+use parts::Queues;
 ghost use mathlib.Core.Path.{_≡_};
 ghost use Prim.Native.Nat.{_<_};
 ghost use Rattle.rules.specs.Limits.{maxClients};
 ghost use Rattle.rules.specs.Events as rules;
-ghost use Rattle.gate.specs.Shows.{Homes, Leaves};
+ghost use Rattle.parts.specs.Shows.{Homes, Leaves};
 ghost use Rattle.entering.specs.Finds.{enters, Ready};
 
 // Real-time: it joins the end of its line if there is room, else the waiting room. If it became front, it joins the

@@ -22,7 +22,7 @@ use Rattle.places.specs.Places.{unpad}
 use Rattle.gate.specs.declared.Line.{Line}
 use Rattle.gate.specs.declared.Setup.{Setup}
 use Rattle.gate.specs.Shown.{setupOf, blankLine}
-use Rattle.gate.specs.Shows.{Fine}
+use Rattle.parts.specs.Shows.{Fine}
 use Rattle.soundness.specs.Clauses.{ofCluster, linesSound}
 use Rattle.soundness.proofs.Facts.{OfCluster, lines-facts}
 use Rattle.soundness.proofs.Sets.{members}

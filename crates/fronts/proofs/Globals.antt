@@ -21,7 +21,7 @@ use Rattle.sets.proofs.Laws.{setOf-same}
 use Rattle.places.specs.Places.{unpad, usedFirst}
 use Rattle.gate.specs.declared.Gate.{Gate}
 use Rattle.gate.specs.Shown.{setupOf, serverOf, stateOf}
-use Rattle.gate.specs.Shows.{Fine}
+use Rattle.parts.specs.Shows.{Fine}
 use Rattle.soundness.specs.Tests.{every, allBelow, distinct, setIn, firstIn}
 use Rattle.soundness.specs.Clauses.{laid, linesSound, globalSound}
 use Rattle.soundness.proofs.Tests.{every-has, all-at, at-all}

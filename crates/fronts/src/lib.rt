@@ -8,7 +8,7 @@ use standing::Seen;
 ghost use mathlib.Core.Path.{_≡_};
 ghost use Rattle.rules.specs.Limits.{maxClusters};
 ghost use Rattle.gate.specs.Shown.{serverOf};
-ghost use Rattle.gate.specs.Shows.{Homes};
+ghost use Rattle.parts.specs.Shows.{Homes};
 ghost use Rattle.fronts.specs.Answers.{firstsOf, queuedOf, globalFits, serverFits};
 
 // THE GLOBAL QUEUE

@@ -1,6 +1,4 @@
 -- What a gate shows of the rules, and what is made of a setup. Nothing is proved here.
-pub mod Parts
 pub mod Shown
-pub mod Shows
 pub mod Made
 pub mod Heard

@@ -17,7 +17,7 @@ use Rattle.rules.proofs.Lists.{heads-same, length-remove, remove-none}
 use Rattle.rules.proofs.Tests.{by-test, clash}
 use Rattle.gate.specs.Shown.{setupOf}
 use Rattle.gate.specs.declared.Setup.{Setup}
-use Rattle.gate.proofs.Turns.{order, fine, queue-once, queue-below, turn-free, front-there}
+use Rattle.parts.proofs.Turns.{order, fine, queue-once, queue-below, turn-free, front-there}
 use Rattle.leaving.specs.Finds.{Turn, Yields}
 
 module _ (v : Setup) (s : State) (sound : Sound (setupOf v) s) where

@@ -16,15 +16,15 @@ use Rattle.rules.specs.State.{Server, State, best, front, idle, isFront, spent}
 use Rattle.rules.proofs.Tests.{clash}
 use Rattle.sets.specs.Sets.{withoutOf}
 use Rattle.places.specs.Places.{takeOutOf}
-use Rattle.gate.specs.Parts.{putGlobal, putLine, putRoom, putServer}
+use Rattle.parts.specs.Parts.{putGlobal, putLine, putRoom, putServer}
 use Rattle.gate.specs.Shown.{serverOf, setupOf}
-use Rattle.gate.specs.Shows.{ShowsQueues}
+use Rattle.parts.specs.Shows.{ShowsQueues}
 use Rattle.gate.specs.declared.Client.{Client}
 use Rattle.gate.specs.declared.Line.{Line}
-use Rattle.gate.specs.declared.Queues.{Queues}
+use Rattle.parts.specs.declared.Queues.{Queues}
 use Rattle.gate.specs.declared.Server.the-variants.{Idle, Spent}
 use Rattle.gate.specs.declared.Setup.{Setup}
-use Rattle.gate.proofs.Parts.{line-at, shows-global, shows-line, shows-room, shows-server, taken-out}
+use Rattle.parts.proofs.Parts.{line-at, shows-global, shows-line, shows-room, shows-server, taken-out}
 use Rattle.rows.specs.Homes.{Home}
 use Rattle.serving.specs.Service.{asFront, asSpent, servedBy}
 use Rattle.ranks.proofs.Ranks.{same-rank}

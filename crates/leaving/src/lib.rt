@@ -1,8 +1,8 @@
 // Who leaves: what an accepted reply and abort do to the queues.
 
 use gate::Client;
-use gate::Queues;
 use gate::Server;
+use parts::Queues;
 ghost use mathlib.Core.Path.{_≡_};
 ghost use Prim.Native.Nat.{_≤_, _<_};
 ghost use lib.ListN.{length};
@@ -14,9 +14,9 @@ ghost use Rattle.rules.specs.Queues.{queue};
 ghost use Rattle.rules.specs.Events as rules;
 ghost use Rattle.places.specs.Places.{takeOutOf};
 ghost use Rattle.gate.specs.declared.Server.the-variants.{Idle};
-ghost use Rattle.gate.specs.Parts.{putGlobal, putServer};
+ghost use Rattle.parts.specs.Parts.{putGlobal, putServer};
 ghost use Rattle.gate.specs.Shown.{serverOf};
-ghost use Rattle.gate.specs.Shows.{Homes, Lent, ServerFits, Leaves};
+ghost use Rattle.parts.specs.Shows.{Homes, Lent, ServerFits, Leaves};
 ghost use Rattle.leaving.specs.Finds.{ends, Turn, Yields};
 
 // LEAVING

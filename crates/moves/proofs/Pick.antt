@@ -9,14 +9,14 @@ use Rattle.rules.specs.Limits.{maxClients, maxClusters, unusedPlace}
 use Rattle.rules.specs.Queues.{pick, start}
 use Rattle.rules.specs.State.{State, best, front}
 use Rattle.places.specs.Places.{closeUpOf}
-use Rattle.gate.specs.Parts.{putBackground, putGlobal, putServer}
+use Rattle.parts.specs.Parts.{putBackground, putGlobal, putServer}
 use Rattle.gate.specs.Shown.{client}
-use Rattle.gate.specs.Shows.{ShowsList, ShowsQueues}
-use Rattle.gate.specs.declared.Queues.{Queues}
+use Rattle.parts.specs.Shows.{ShowsList, ShowsQueues}
+use Rattle.parts.specs.declared.Queues.{Queues}
 use Rattle.gate.specs.declared.Server.the-variants.{Best, Front, Idle}
 use Rattle.gate.specs.declared.Setup.{Setup}
-use Rattle.gate.proofs.Fits.{fits-first}
-use Rattle.gate.proofs.Parts.{closed-up, first-empty, first-is, shows-background, shows-global, shows-server}
+use Rattle.parts.proofs.Fits.{fits-first}
+use Rattle.parts.proofs.Parts.{closed-up, first-empty, first-is, shows-background, shows-global, shows-server}
 
 module _ {v : Setup} {s : State} {q : Queues} (h : ShowsQueues v s q) where
   global-is : {l : List ℕ} → s .global ≡ l → ShowsList maxClusters l (q .global)

@@ -10,14 +10,14 @@ use Rattle.rules.specs.Limits.{maxClusters, maxSize, unusedPlace}
 use Rattle.rules.specs.Queues.{join, queue}
 use Rattle.rules.specs.State.{State, blocks, withGlobal}
 use Rattle.places.specs.Places.{appendOf}
-use Rattle.gate.specs.Parts.{putGlobal}
+use Rattle.parts.specs.Parts.{putGlobal}
 use Rattle.gate.specs.Shown.{serverOf, setupOf}
-use Rattle.gate.specs.Shows.{ShowsList, ShowsQueues}
+use Rattle.parts.specs.Shows.{ShowsList, ShowsQueues}
 use Rattle.gate.specs.declared.Line.{Line}
-use Rattle.gate.specs.declared.Queues.{Queues}
+use Rattle.parts.specs.declared.Queues.{Queues}
 use Rattle.gate.specs.declared.Setup.{Setup}
-use Rattle.gate.proofs.Fits.{fits-first}
-use Rattle.gate.proofs.Parts.{appended, first-empty, first-is, line-at, shows-global}
+use Rattle.parts.proofs.Fits.{fits-first}
+use Rattle.parts.proofs.Parts.{appended, first-empty, first-is, line-at, shows-global}
 
 -- whether the cluster is blocked, from the one in service that is shown
 pub blocked-is : {v : Setup} {s : State} {q : Queues} → ShowsQueues v s q → (k : ℕ) {b : Bool}

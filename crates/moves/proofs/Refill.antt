@@ -17,13 +17,13 @@ use Rattle.rules.proofs.Tests.{both-true}
 use Rattle.sets.specs.Sets.{member, setOf, withoutOf}
 use Rattle.sets.proofs.Laws.{member-setOf}
 use Rattle.places.specs.Places.{appendOf, usedOf}
-use Rattle.gate.specs.Parts.{putLine, putRoom}
+use Rattle.parts.specs.Parts.{putLine, putRoom}
 use Rattle.gate.specs.Shown.{setupOf}
-use Rattle.gate.specs.Shows.{Fine, ShowsList, ShowsQueues}
+use Rattle.parts.specs.Shows.{Fine, ShowsList, ShowsQueues}
 use Rattle.gate.specs.declared.Line.{Line}
-use Rattle.gate.specs.declared.Queues.{Queues}
+use Rattle.parts.specs.declared.Queues.{Queues}
 use Rattle.gate.specs.declared.Setup.{Setup}
-use Rattle.gate.proofs.Parts.{appended, line-at, room-at, shows-line, shows-room, used-is}
+use Rattle.parts.proofs.Parts.{appended, line-at, room-at, shows-line, shows-room, used-is}
 use Rattle.ranks.specs.Ranks.{orNobody, rankBy}
 use Rattle.ranks.proofs.Ranks.{Found, found, highest-same, rank-is}
 

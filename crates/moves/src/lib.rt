@@ -3,17 +3,17 @@
 
 use gate::Cluster;
 use gate::Gate;
-use gate::Queues;
 use gate::Server;
-use gate::Service;
+use parts::Queues;
+use parts::Service;
 ghost use mathlib.Core.Path.{_≡_};
 ghost use Prim.Native.Nat.{_≤_, _<_};
 ghost use lib.ListN.{length};
 ghost use Rattle.rules.specs.Limits.{maxClusters, maxClients};
 ghost use Rattle.rules.specs.Rank.{outranks};
 ghost use Rattle.rules.specs.Queues as rules;
-ghost use Rattle.gate.specs.Parts.{putServer};
-ghost use Rattle.gate.specs.Shows.{Lent, Leaves};
+ghost use Rattle.parts.specs.Parts.{putServer};
+ghost use Rattle.parts.specs.Shows.{Lent, Leaves};
 
 // REFILL
 

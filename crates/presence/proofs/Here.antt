@@ -13,12 +13,12 @@ use Rattle.rules.specs.State.{State, serves}
 use Rattle.rules.specs.Step.{present}
 use Rattle.sets.specs.Sets.{member}
 use Rattle.gate.specs.Shown.{serverOf, setupOf}
-use Rattle.gate.specs.Shows.{ShowsList, ShowsQueues}
+use Rattle.parts.specs.Shows.{ShowsList, ShowsQueues}
 use Rattle.gate.specs.declared.Line.{Line}
-use Rattle.gate.specs.declared.Queues.{Queues}
+use Rattle.parts.specs.declared.Queues.{Queues}
 use Rattle.gate.specs.declared.Setup.{Setup}
-use Rattle.gate.proofs.Parts as parts
-use Rattle.gate.proofs.Parts.{has-is, heads-is, line-at}
+use Rattle.parts.proofs.Parts as parts
+use Rattle.parts.proofs.Parts.{has-is, heads-is, line-at}
 use Rattle.rows.specs.Homes.{Home}
 use Rattle.presence.specs.Presence.{presentIn, waitsIn}
 

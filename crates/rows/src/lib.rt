@@ -12,7 +12,7 @@ ghost use Rattle.rules.specs.Limits.{maxClusters, maxClients};
 ghost use Rattle.rules.specs.Lists.{has};
 ghost use Rattle.places.specs.Places.{usedOf, appendOf, takeOutOf};
 ghost use Rattle.gate.specs.Shown.{client};
-ghost use Rattle.gate.specs.Shows.{Homes};
+ghost use Rattle.parts.specs.Shows.{Homes};
 ghost use Rattle.rows.specs.Homes.{Home};
 
 // A client's number as an index.

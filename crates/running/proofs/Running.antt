@@ -14,8 +14,8 @@ use Rattle.rules.specs.State.{State, isIdle}
 use Rattle.rules.specs.Step.{answer, next, overcharges, step}
 use Rattle.rules.proofs.Tests.{by-test}
 use Rattle.gate.specs.Shown.{setupOf, table}
-use Rattle.gate.specs.Shows.{ShowsQueues}
-use Rattle.gate.specs.declared.Queues.{Queues}
+use Rattle.parts.specs.Shows.{ShowsQueues}
+use Rattle.parts.specs.declared.Queues.{Queues}
 use Rattle.gate.specs.declared.Setup.{Setup}
 use Rattle.answers.specs.Answers.{Answers, Holds}
 use Rattle.answers.specs.declared.Answer.the-variants as is

@@ -12,9 +12,9 @@ use Rattle.rules.specs.Rank.{outranks}
 use Rattle.rules.specs.Events.{ran}
 use Rattle.rules.specs.Step.{overcharges}
 use Rattle.gate.specs.declared.Setup.{Setup}
-use Rattle.gate.specs.declared.Queues.{Queues}
+use Rattle.parts.specs.declared.Queues.{Queues}
 use Rattle.gate.specs.Shown.{setupOf, table}
-use Rattle.gate.specs.Shows.{ShowsQueues}
+use Rattle.parts.specs.Shows.{ShowsQueues}
 use Rattle.answers.specs.declared.Outcome.{Outcome}
 use Rattle.answers.specs.Answers.{Holds, numberOf}
 

@@ -2,13 +2,13 @@
 
 use answers::Answer;
 use answers::Outcome;
-use gate::Queues;
+use parts::Queues;
 ghost use mathlib.Core.Path.{_≡_};
 ghost use Prim.Native.Nat.{_+_, _≤_};
 ghost use lib.Dec.{ltb};
 ghost use Rattle.rules.specs.Limits.{maxClusters, maxClients, maxCap};
 ghost use Rattle.rules.specs.Events as rules;
-ghost use Rattle.gate.specs.Shows.{Lent};
+ghost use Rattle.parts.specs.Shows.{Lent};
 ghost use Rattle.answers.specs.Answers.{Answering};
 ghost use Rattle.running.specs.Runs.{Charging};
 

@@ -11,7 +11,7 @@ use Rattle.rules.specs.Replay.{inService}
 use Rattle.rules.specs.Setup.{Setup}
 use Rattle.rules.specs.State.{Server, idle, front, best, spent, serves, isFront, isIdle, isSpent, blocks}
 use Rattle.rules.proofs.Tests.{clash}
-use Rattle.gate.specs.Shows.{ServerFits}
+use Rattle.parts.specs.Shows.{ServerFits}
 use Rattle.serving.specs.Service.{asFront, asSpent, servedBy}
 
 pub serves-is : (x : Server) (c : ℕ) → serves x c ≡ (not (isIdle x) && eqb (servedBy x) c)

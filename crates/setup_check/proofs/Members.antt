@@ -15,8 +15,8 @@ use Rattle.sets.proofs.Bits.{member-none}
 use Rattle.sets.proofs.Laws.{member-setOf-past}
 use Rattle.gate.specs.declared.Setup.{Setup}
 use Rattle.gate.specs.Shown.{setupOf}
-use Rattle.gate.specs.Shows.{Fine}
-use Rattle.gate.proofs.Parts.{room-at}
+use Rattle.parts.specs.Shows.{Fine}
+use Rattle.parts.proofs.Parts.{room-at}
 use Rattle.gate.proofs.Tables.{table-past}
 use Rattle.soundness.specs.Clauses.{isReal, ofCluster, ofBackground}
 use Rattle.soundness.proofs.Sets.{members}

@@ -14,7 +14,7 @@ use Rattle.rules.proofs.Tests.{by-test}
 use Rattle.sets.specs.Sets.{setOf, withOf}
 use Rattle.sets.proofs.Laws.{setOf-upd, setOf-none}
 use Rattle.gate.specs.Shown.{showRooms, table}
-use Rattle.gate.proofs.Parts.{room-put}
+use Rattle.parts.proofs.Parts.{room-put}
 use Rattle.gate.proofs.Tables.{table-same}
 use Rattle.setup_check.specs.Answers.{setsOf}
 use Rattle.setup_check.specs.declared.Clients.{Clients}

@@ -6,7 +6,7 @@ ghost use Prim.Native.Nat.{_+_, _≤_, _<_};
 ghost use lib.ListN.{getD, drop};
 ghost use Rattle.rules.specs.Limits.{maxClusters, maxClients};
 ghost use Rattle.places.specs.Places.{holdsOnly};
-ghost use Rattle.gate.specs.Shows.{Homes};
+ghost use Rattle.parts.specs.Shows.{Homes};
 ghost use Rattle.soundness.specs.Clauses.{setupSound};
 ghost use Rattle.setup_check.specs.Answers.{trimmed, setsOf};
 

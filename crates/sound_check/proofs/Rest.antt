@@ -19,8 +19,8 @@ use Rattle.places.specs.Places.{unpad}
 use Rattle.gate.specs.declared.Setup.{Setup}
 use Rattle.gate.specs.declared.Gate.{Gate}
 use Rattle.gate.specs.Shown.{setupOf, serverOf, stateOf}
-use Rattle.gate.specs.Shows.{Fine}
-use Rattle.gate.proofs.SoundShows.{accepted-fine}
+use Rattle.parts.specs.Shows.{Fine}
+use Rattle.parts.proofs.SoundShows.{accepted-fine}
 use Rattle.soundness.specs.Tests.{allBelow, joined}
 use Rattle.soundness.specs.Clauses.{laid, isReal, ofCluster, setupSound, everyone, lineSound, linesSound}
 use Rattle.soundness.specs.Clauses.{backgroundSound, standSound, roomsSound, serverSound, chargesSound, restSound}

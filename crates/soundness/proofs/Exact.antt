@@ -15,8 +15,8 @@ use Rattle.gate.specs.declared.Setup.{Setup}
 use Rattle.gate.specs.declared.Gate.{Gate}
 use Rattle.gate.specs.Shown.{setupOf, stateOf, shown}
 use Rattle.gate.specs.Made.{trimmedIn, emptyGate, freshGate, made}
-use Rattle.gate.proofs.Reading.{LaidOut, shown-back}
-use Rattle.gate.proofs.SoundShows.{sound-back, fresh-sound}
+use Rattle.parts.proofs.Reading.{LaidOut, shown-back}
+use Rattle.parts.proofs.SoundShows.{sound-back, fresh-sound}
 use Rattle.soundness.specs.Tests.{setIn}
 use Rattle.soundness.specs.Clauses.{setupSound, everyone, standSound, restSound, soundOf}
 use Rattle.soundness.specs.Form.{ShowsSound}

@@ -23,9 +23,9 @@ use Rattle.sets.proofs.Laws.{setOf-below, setOf-cut, member-setOf, setOf-none}
 use Rattle.places.specs.Places.{pad}
 use Rattle.gate.specs.declared.Setup.{Setup}
 use Rattle.gate.specs.Shown.{setupOf, showRooms, table, shown}
-use Rattle.gate.specs.Shows.{Shows}
+use Rattle.parts.specs.Shows.{Shows}
 use Rattle.gate.proofs.Tables.{length-table, table-at}
-use Rattle.gate.proofs.SoundShows.{sound-shows}
+use Rattle.parts.proofs.SoundShows.{sound-shows}
 use Rattle.soundness.specs.Tests.{setIn, firstIn}
 use Rattle.soundness.specs.Clauses.{ofCluster, everyone}
 use Rattle.soundness.specs.Clauses.{roomSound, roomsSound, globalSound, serverSound, chargeSound, chargesSound}

@@ -21,9 +21,9 @@ use Rattle.places.proofs.Pads.{length-pad, no-unused, unpad-pad, usedFirst-pad}
 use Rattle.gate.specs.declared.Line.{Line}
 use Rattle.gate.specs.declared.Setup.{Setup}
 use Rattle.gate.specs.Shown.{setupOf, blankLine, showLines, shown}
-use Rattle.gate.specs.Shows.{Fits, Shows}
+use Rattle.parts.specs.Shows.{Fits, Shows}
 use Rattle.gate.proofs.Tables.{length-table, table-at}
-use Rattle.gate.proofs.SoundShows.{sound-shows}
+use Rattle.parts.proofs.SoundShows.{sound-shows}
 use Rattle.soundness.specs.Tests.{distinct, joined, setIn}
 use Rattle.soundness.specs.Clauses.{laid, everyone, ofCluster, ofBackground, lineSound, linesSound}
 use Rattle.soundness.specs.Clauses.{backgroundSound}

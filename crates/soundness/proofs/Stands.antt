@@ -22,8 +22,8 @@ use Rattle.places.specs.Places.{unpad}
 use Rattle.gate.specs.declared.Setup.{Setup}
 use Rattle.gate.specs.declared.Gate.{Gate}
 use Rattle.gate.specs.Shown.{setupOf, stateOf, blankLine}
-use Rattle.gate.specs.Shows.{Fine}
-use Rattle.gate.proofs.SoundShows.{accepted-fine}
+use Rattle.parts.specs.Shows.{Fine}
+use Rattle.parts.proofs.SoundShows.{accepted-fine}
 use Rattle.soundness.specs.Tests.{every, allBelow, joined, setIn}
 use Rattle.soundness.specs.Clauses.{laid, ofBackground, backgroundSound, everyone}
 use Rattle.soundness.specs.Clauses.{isReal, chargeSound, chargesSound}

@@ -14,12 +14,12 @@ use Rattle.rules.specs.Records.{answerOf, stepOf}
 use Rattle.rules.proofs.Setups.{allowed}
 use Rattle.rules.proofs.Theorems.{sound-stays}
 use Rattle.gate.specs.declared.Gate.{Gate}
-use Rattle.gate.specs.declared.Queues.{Queues}
+use Rattle.parts.specs.declared.Queues.{Queues}
 use Rattle.gate.specs.declared.Setup.{Setup}
-use Rattle.gate.specs.Parts.{gateOf}
+use Rattle.parts.specs.Parts.{gateOf}
 use Rattle.gate.specs.Shown.{serverOf, setupOf, stateOf, shown}
-use Rattle.gate.specs.Shows.{Fine, Homes, ServerFits, Shows}
-use Rattle.gate.proofs.Reading.{laid-shows, shows-is, shown-back}
+use Rattle.parts.specs.Shows.{Fine, Homes, ServerFits, Shows}
+use Rattle.parts.proofs.Reading.{laid-shows, shows-is, shown-back}
 use Rattle.soundness.specs.Clauses.{soundOf}
 use Rattle.soundness.proofs.Exact.{passed-laid, passed-sound, shown-passes}
 use Rattle.answers.specs.Answers.{numberOf, Answers, Holds}

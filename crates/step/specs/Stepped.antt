@@ -9,9 +9,9 @@ use Rattle.rules.specs.Refusals.{unsound}
 use Rattle.rules.specs.Events.{Event}
 use Rattle.rules.specs.Records.{answerOf, stepOf}
 use Rattle.gate.specs.declared.Setup.{Setup}
-use Rattle.gate.specs.declared.Queues.{Queues}
+use Rattle.parts.specs.declared.Queues.{Queues}
 use Rattle.gate.specs.declared.Gate.{Gate}
-use Rattle.gate.specs.Parts.{gateOf}
+use Rattle.parts.specs.Parts.{gateOf}
 use Rattle.gate.specs.Shown.{setupOf, stateOf, shown}
 use Rattle.soundness.specs.Clauses.{soundOf}
 use Rattle.answers.specs.Answers.{numberOf}

@@ -6,16 +6,16 @@ use answers::Outcome;
 use gate::Event;
 use gate::Gate;
 use gate::Heard;
-use gate::Queues;
 use gate::Setup;
 use gate::heard_in;
+use parts::Queues;
 ghost use mathlib.Core.Path.{_≡_};
 ghost use mathlib.Core.Option.{some};
 ghost use lib.ListN.{length};
 ghost use Rattle.rules.specs.Limits.{maxClients};
 ghost use Rattle.rules.specs.Records.{eventOf};
 ghost use Rattle.gate.specs.Heard.{eventIn, heardIn};
-ghost use Rattle.gate.specs.Parts.{setupWith, gateOf};
+ghost use Rattle.parts.specs.Parts.{setupWith, gateOf};
 ghost use Rattle.step.specs.Stepped.{toldIn, stepped, Stands, Steps};
 
 // The answer, and the gate after.
@@ -126,7 +126,7 @@ fn joined_record(s: Setup, q: Queues, charges: [u32; 64], h: Heard) -> Answered
     );
     let answer = r.answer;
     let queues = r.queues;
-    let next = gate::gate_of(s, queues, after);
+    let next = parts::gate_of(s, queues, after);
     Answered {
         answer: answer,
         gate: next,
@@ -145,7 +145,7 @@ fn checked_record(g: Gate, h: Heard) -> Answered
     }
     let s = g.setup;
     let charges = g.charges;
-    joined_record(s, gate::queues_of(g), charges, h)
+    joined_record(s, parts::queues_of(g), charges, h)
 }
 
 // An event on any gate.

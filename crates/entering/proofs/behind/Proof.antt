@@ -1,7 +1,7 @@
 -- `entering::behind` meets its contract.
 -- Assumes nothing.
 use borrow.Author.Needs.{needs}
-use Rattle.gate.proofs.Parts.{appended, shows-background}
+use Rattle.parts.proofs.Parts.{appended, shows-background}
 use Rattle.entering.proofs.behind.Statement.{statement}
 use Rattle.entering.proofs.behind.Tie as tie
 

@@ -3,7 +3,7 @@
 use mathlib.Core.Path.{_∙_, sym}
 use borrow.Author.Needs.{needs}
 use Rattle.charging.proofs.Growing.{charges-ran, overcharges-is}
-use Rattle.gate.proofs.Parts.{shows-charge, shows-server}
+use Rattle.parts.proofs.Parts.{shows-charge, shows-server}
 use Rattle.rules.specs.Events.{ran}
 use Rattle.running.proofs.Running.{charges-fine, charges-over}
 use Rattle.running.proofs.charged.Statement.{statement}

@@ -12,7 +12,7 @@ use borrow.Author.Needs.{needs}
 use Rattle.rules.specs.Limits.{maxClusters, maxClients}
 use Rattle.gate.specs.declared.Gate.{Gate}
 use Rattle.gate.specs.Shown.{serverOf}
-use Rattle.gate.specs.Shows.{Homes}
+use Rattle.parts.specs.Shows.{Homes}
 use Rattle.soundness.specs.Clauses.{setupSound, soundOf}
 use Rattle.standing.specs.Answers.{seenOf, linesSeen}
 use Rattle.fronts.specs.Answers.{firstsOf, queuedOf, serverFits}

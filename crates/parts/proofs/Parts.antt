@@ -18,15 +18,15 @@ use Rattle.sets.proofs.Laws.{member-setOf, setOf-same, setOf-upd}
 use Rattle.places.specs.Places.{appendOf, closeUpOf, pad, takeOutOf, usedOf}
 use Rattle.places.proofs.Pads.{has-pad, heads-pad}
 use Rattle.places.proofs.Queues.{append-pad, close-first, takeOut-pad, used-pad}
-use Rattle.gate.specs.Parts.{putBackground, putGlobal, putLine, putRoom, putServer}
+use Rattle.parts.specs.Parts.{putBackground, putGlobal, putLine, putRoom, putServer}
 use Rattle.gate.specs.Shown.{serverOf, setupOf, showRooms}
-use Rattle.gate.specs.Shows.{Fits, ServerFits, ShowsLines, ShowsList, ShowsQueues, ShowsService}
+use Rattle.parts.specs.Shows.{Fits, ServerFits, ShowsLines, ShowsList, ShowsQueues, ShowsService}
 use Rattle.gate.specs.declared.Line.{Line}
-use Rattle.gate.specs.declared.Queues.{Queues}
+use Rattle.parts.specs.declared.Queues.{Queues}
 use Rattle.gate.specs.declared.Server.{Server}
 use Rattle.gate.specs.declared.Setup.{Setup}
-use Rattle.gate.proofs.Fits.{fits-remove, fits-snoc, fits-tail, fits-used}
+use Rattle.parts.proofs.Fits.{fits-remove, fits-snoc, fits-tail, fits-used}
 use Rattle.gate.proofs.Tables.{set-table, table-at, table-same}
 
 -- 255 is no client
 pub someone : {c : ℕ} → c < maxClients → c ≡ unusedPlace → ⊥

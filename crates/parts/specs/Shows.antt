@@ -11,13 +11,13 @@ use Rattle.rules.specs.Setup as rules-setup
 use Rattle.rules.specs.State as rules
 use Rattle.rules.specs.State.{State, idle, front, best, spent}
 use Rattle.places.specs.Places.{pad}
 use Rattle.gate.specs.declared.Line.{Line}
-use Rattle.gate.specs.declared.Service.{Service}
+use Rattle.parts.specs.declared.Service.{Service}
 use Rattle.gate.specs.declared.Setup.{Setup}
-use Rattle.gate.specs.declared.Queues.{Queues}
+use Rattle.parts.specs.declared.Queues.{Queues}
 use Rattle.gate.specs.declared.Gate.{Gate}
-use Rattle.gate.specs.Parts.{queuesOf}
+use Rattle.parts.specs.Parts.{queuesOf}
 use Rattle.gate.specs.Shown.{setupOf, serverOf, showLines, showRooms, table}
 
 -- THE TABLE
 

@@ -3,12 +3,12 @@
 use Prim.Native.Nat.{ℕ}
 use mathlib.Core.List.{List}
 use lib.ListN.{set}
 use Rattle.gate.specs.declared.Line.{Line}
 use Rattle.gate.specs.declared.Server.{Server}
-use Rattle.gate.specs.declared.Service.{Service}
+use Rattle.parts.specs.declared.Service.{Service}
 use Rattle.gate.specs.declared.Setup.{Setup}
-use Rattle.gate.specs.declared.Queues.{Queues}
+use Rattle.parts.specs.declared.Queues.{Queues}
 use Rattle.gate.specs.declared.Gate.{Gate}
 
 abbrev pub service : Server → ℕ → Service
 service x n = record { server = x; units = n }

@@ -17,17 +17,17 @@ use Rattle.sets.specs.Sets.{member, setOf}
 use Rattle.sets.proofs.Laws.{member-setOf, is-setOf}
 use Rattle.places.specs.Places.{pad, unpad, usedFirst}
 use Rattle.places.proofs.Pads.{unpad-pad, pad-unpad, unpad-fits, no-unused}
 use Rattle.gate.specs.declared.Line.{Line}
 use Rattle.gate.specs.declared.Server.{Server}
 use Rattle.gate.specs.declared.Server.the-variants.{Idle, Front, Best, Spent}
 use Rattle.gate.specs.declared.Setup.{Setup}
-use Rattle.gate.specs.declared.Queues.{Queues}
+use Rattle.parts.specs.declared.Queues.{Queues}
 use Rattle.gate.specs.declared.Gate.{Gate}
-use Rattle.gate.specs.Parts.{service, queues, gateOf}
+use Rattle.parts.specs.Parts.{service, queues, gateOf}
 use Rattle.gate.specs.Shown.{setupOf, serverOf, blankLine, stateOf}
 use Rattle.gate.specs.Shown.{table, showServer, showLines, showRooms, shown}
-use Rattle.gate.specs.Shows.{Fine, Fits, ServerFits, ShowsList, ShowsQueues, Shows, Within}
+use Rattle.parts.specs.Shows.{Fine, Fits, ServerFits, ShowsList, ShowsQueues, Shows, Within}
 use Rattle.gate.proofs.Tables.{table-at, table-past, table-same, list-table}
 
 -- PARTS
 

@@ -18,10 +18,10 @@ use Rattle.rules.proofs.InOrder.{InOrder, own}
 use Rattle.rules.proofs.Lists.{distinct-right}
 use Rattle.rules.proofs.SoundStates.{sound-in-order}
 use Rattle.rules.proofs.Tests.{not-so, either-true}
 use Rattle.gate.specs.Shown.{setupOf}
-use Rattle.gate.specs.Shows.{Fine}
+use Rattle.parts.specs.Shows.{Fine}
 use Rattle.gate.specs.declared.Setup.{Setup}
-use Rattle.gate.proofs.SoundShows.{accepted-fine}
+use Rattle.parts.proofs.SoundShows.{accepted-fine}
 
 module _ (v : Setup) (s : State) (sound : Sound (setupOf v) s) where
   pub order : InOrder (setupOf v) s

@@ -23,12 +23,12 @@ use Rattle.rules.proofs.Setups.{allowed}
 use Rattle.rules.proofs.InOrder.{own}
 use Rattle.rules.proofs.SoundStates.{sound-in-order}
 use Rattle.rules.proofs.Theorems.{every-state-sound}
 use Rattle.gate.specs.declared.Setup.{Setup}
 use Rattle.gate.specs.Shown.{setupOf, serverOf, stateOf, showServer, shown}
-use Rattle.gate.specs.Shows.{Fine, ServerFits, Shows, Within}
+use Rattle.parts.specs.Shows.{Fine, ServerFits, Shows, Within}
 use Rattle.gate.specs.Made.{trimmedIn}
 use Rattle.gate.proofs.Zeros.{zeros-at}
-use Rattle.gate.proofs.Reading.{state-back}
+use Rattle.parts.proofs.Reading.{state-back}
 
 pub server-back : (x : state.Server) → serverOf (showServer x) ≡ x
 server-back idle = refl

@@ -11,7 +11,7 @@ use Rattle.rules.specs.Lists.{has, remove}
 use Rattle.rules.proofs.Lists.{has-head, has-snoc, has-tail, length-remove, length-snoc, remove-has, remove-none}
 use Rattle.rules.proofs.Tests.{by-test}
 use Rattle.places.proofs.Pads.{no-unused}
-use Rattle.gate.specs.Shows.{Fits}
+use Rattle.parts.specs.Shows.{Fits}
 
 -- 255 is in none of them
 pub fits-used : {n : ℕ} {l : List ℕ} → Fits n l → has unusedPlace l ≡ false

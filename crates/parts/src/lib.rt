@@ -1,11 +1,26 @@
-// A gate taken apart, and put together.
+// A gate in parts: taken apart, and put together. Inner functions take the parts.
 
-use crate::Gate;
-use crate::Queues;
-use crate::Service;
-use crate::Setup;
+use gate::Gate;
+use gate::Line;
+use gate::Server;
+use gate::Setup;
 ghost use mathlib.Core.Path.{_≡_};
-ghost use Rattle.gate.specs.Parts.{queuesOf, gateOf};
+ghost use Rattle.parts.specs.Parts.{queuesOf, gateOf};
+
+// Who is in service, and the units served so far on that request.
+pub struct Service {
+    pub server: Server,
+    pub units: u32,
+}
+
+// What events change of a gate, but the charges: who waits where, and who is in service.
+pub struct Queues {
+    pub lines: [Line; 8],
+    pub rooms: [u64; 8],
+    pub global: [u8; 8],
+    pub background: [u8; 64],
+    pub service: Service,
+}
 
 // What events change of it, but the charges.
 pub fn queues_of(g: Gate) -> Queues
