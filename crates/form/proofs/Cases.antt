@@ -6,7 +6,7 @@ use mathlib.Core.List.{List, [], _∷_}
 use lib.ListN.{replicate}
 use Rattle.rules.specs.Refusals.{accepted, fieldOut, overPeriod}
 use Rattle.rules.specs.Quote.{Quote, refusedQuote, quote}
-use Rattle.order.specs.Numbers.{fieldOf}
+use Rattle.numerals.specs.Numbers.{fieldOf}
 use Rattle.order.specs.Orders.{values, asked}
 use Rattle.form.specs.Input.{orders}
 use Rattle.text.specs.Text.{decimal}

@@ -1,7 +1,7 @@
 -- What an accepted reply and abort find in a sound state.
 -- Assumes nothing.
 use Prim.Native.Nat.{_<_, ℕ}
-use mathlib.Core.Bool.{false, true}
+use mathlib.Core.Bool.{false}
 use mathlib.Core.List.{map}
 use mathlib.Core.Path.{_≡_}
 use native.Mathlib.Omega.{arith}

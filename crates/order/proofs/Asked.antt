@@ -10,7 +10,7 @@ use borrow.Author.Tests.{lt-ltb, le-ltb}
 use Rattle.rules.specs.Refusals.{badLines}
 use Rattle.rules.specs.Quote.{orderOf, refusedQuote, quote}
 use Rattle.quote.proofs.Answers.{many-lines}
-use Rattle.order.specs.Numbers.{outOfRange}
+use Rattle.numerals.specs.Numbers.{outOfRange}
 use Rattle.order.specs.Orders.{fields, values, everyOther, orderFrom, maxBytes, asked}
 use Rattle.order.specs.Steps.{maxFields}
 use Rattle.order.proofs.Fields.{length-values}

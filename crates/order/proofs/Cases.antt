@@ -3,13 +3,12 @@
 use Prim.Native.Nat.{ℕ}
 use mathlib.Core.Path.{_≡_, refl}
 use mathlib.Core.List.{List, [], _∷_}
-use lib.IntN.{ℤ, pos, negsuc}
 use lib.ListN.{replicate}
 use Rattle.rules.specs.Quote.{quote}
 use Rattle.quote.specs.declared.Answer.{Answer}
 use Rattle.quote.specs.declared.Answer.the-variants.{Accepted, FieldOut, OverPeriod, BadLines}
 use Rattle.quote.specs.Told.{told}
-use Rattle.order.specs.Numbers.{fieldOf}
+use Rattle.numerals.specs.Numbers.{fieldOf}
 use Rattle.order.specs.Orders.{orderFrom, values, asked}
 
 abbrev Gives : List ℕ → Answer → Type 0
@@ -46,42 +45,6 @@ pub fields-wrong :
     × Gives (49 ∷ 44 ∷ 49 ∷ 44 ∷ 49 ∷ 44 ∷ 49 ∷ 44 ∷ 48 ∷ 44 ∷ 43 ∷ 49 ∷ []) (FieldOut 5)
 unfolding quote asked values fieldOf
 fields-wrong = (refl, refl, refl, refl, refl, refl, refl)
-
--- the number that a field's text is read as
-abbrev Reads : List ℕ → ℤ → Type 0
-Reads s z = fieldOf s ≡ z
-
--- 007
--- -0
--- -
--- -40
--- --1
--- 1 and a space
-pub numbers :
-    Reads (48 ∷ 48 ∷ 55 ∷ []) (pos 7)
-    × Reads (45 ∷ 48 ∷ []) (pos 0)
-    × Reads (45 ∷ []) (negsuc 0)
-    × Reads (45 ∷ 52 ∷ 48 ∷ []) (negsuc 39)
-    × Reads (45 ∷ 45 ∷ 49 ∷ []) (negsuc 0)
-    × Reads (49 ∷ 32 ∷ []) (negsuc 0)
-unfolding fieldOf
-numbers = (refl, refl, refl, refl, refl, refl)
-
--- 9223372036854775807
--- 9223372036854775808
--- -9223372036854775808
--- -9223372036854775809
-pub extremes :
-    Reads (57 ∷ 50 ∷ 50 ∷ 51 ∷ 51 ∷ 55 ∷ 50
-    ∷ 48 ∷ 51 ∷ 54 ∷ 56 ∷ 53 ∷ 52 ∷ 55 ∷ 55 ∷ 53 ∷ 56 ∷ 48 ∷ 55 ∷ []) (pos 9223372036854775807)
-    × Reads (57 ∷ 50 ∷ 50 ∷ 51 ∷ 51 ∷ 55 ∷ 50
-    ∷ 48 ∷ 51 ∷ 54 ∷ 56 ∷ 53 ∷ 52 ∷ 55 ∷ 55 ∷ 53 ∷ 56 ∷ 48 ∷ 56 ∷ []) (negsuc 0)
-    × Reads (45 ∷ 57 ∷ 50 ∷ 50 ∷ 51 ∷ 51 ∷ 55 ∷ 50
-    ∷ 48 ∷ 51 ∷ 54 ∷ 56 ∷ 53 ∷ 52 ∷ 55 ∷ 55 ∷ 53 ∷ 56 ∷ 48 ∷ 56 ∷ []) (negsuc 9223372036854775807)
-    × Reads (45 ∷ 57 ∷ 50 ∷ 50 ∷ 51 ∷ 51 ∷ 55 ∷ 50
-    ∷ 48 ∷ 51 ∷ 54 ∷ 56 ∷ 53 ∷ 52 ∷ 55 ∷ 55 ∷ 53 ∷ 56 ∷ 48 ∷ 57 ∷ []) (negsuc 0)
-unfolding fieldOf
-extremes = (refl, refl, refl, refl)
 
 -- an empty line is an order with no fields
 pub no-fields : orderFrom (values []) ≡ orderFrom []

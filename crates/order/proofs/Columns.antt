@@ -9,7 +9,7 @@ use lib.Dec.{eqb}
 use lib.ListN.{length, getD, take, drop, set, length-drop}
 use lib.Seq.{ext-getD, getD-take, getD-drop, getD-set-same, getD-set-other, length-take-le}
 use borrow.Author.Tests.{eqb-true, eqb-false}
-use Rattle.order.specs.Numbers.{outOfRange}
+use Rattle.numerals.specs.Numbers.{outOfRange}
 use Rattle.order.specs.Orders.{everyOther}
 use Rattle.order.specs.Steps.{inColumn}
 use Rattle.rules.proofs.Tests.{by-test}

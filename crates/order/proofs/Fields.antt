@@ -9,7 +9,7 @@ use lib.Dec.{eqb}
 use lib.ListN.{length, getD, take, drop, length-drop, length-map, List·getD-map}
 use lib.Seq.{drop-cons, drop-drop, getD-drop}
 use borrow.Author.Tests.{eq-eqb, ne-eqb}
-use Rattle.order.specs.Numbers.{outOfRange, fieldOf}
+use Rattle.numerals.specs.Numbers.{outOfRange, fieldOf}
 use Rattle.order.specs.Orders.{comma, withFirst, fields, values}
 use Rattle.order.specs.Steps.{fieldLength}
 use Rattle.rules.proofs.Tests.{by-test}

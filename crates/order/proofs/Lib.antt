@@ -1,6 +1,5 @@
 -- What the proofs of `order` share.
 pub mod Cases
-pub mod Digits
 pub mod Fields
 pub mod Placed
 pub mod Columns

@@ -11,7 +11,7 @@ use lib.ListN.{getD-replicate, List·getD-eq-default}
 use lib.Seq.{take-all, getD-take, getD-set-same, getD-set-other}
 use borrow.Author.Tests.{eqb-true, eqb-false, ltb-true, ltb-false}
 use Rattle.rules.proofs.Tests.{by-test}
-use Rattle.order.specs.Numbers.{outOfRange, fieldOf}
+use Rattle.numerals.specs.Numbers.{outOfRange, fieldOf}
 use Rattle.order.specs.Orders.{fields, values}
 use Rattle.order.specs.Steps.{fieldLength, Placed}
 use Rattle.order.proofs.Fields.{At, at-start, at-next, length-values, value-here, last-here, field-here}

@@ -1,4 +1,3 @@
 -- A line of text as an order, to be read in this order. Nothing is proved here.
-pub mod Numbers
 pub mod Orders
 pub mod Steps

@@ -8,7 +8,7 @@ use lib.IntN.{ℤ}
 use lib.ListN.{length, getD, drop}
 use Rattle.rules.specs.Refusals.{badLines}
 use Rattle.rules.specs.Quote.{Order, Quote, refusedQuote, quote}
-use Rattle.order.specs.Numbers.{outOfRange, fieldOf}
+use Rattle.numerals.specs.Numbers.{outOfRange, fieldOf}
 
 -- FIELDS
 

@@ -1,32 +1,14 @@
 -- What the functions on the way to a line's quote answer.
 -- Assumes nothing.
-use Prim.Native.Nat.{ℕ, zero, suc, _+_, _-_, _*_, _/_, _^_, _<_}
+use Prim.Native.Nat.{ℕ, suc, _+_, _-_, _*_, _/_, _<_}
 use mathlib.Core.Path.{_≡_}
 use mathlib.Core.Bool.{cond}
 use mathlib.Core.List.{List, [], _∷_}
-use mathlib.Core.Option.{Option, some, none}
-use lib.Dec.{eqb, ltb, leb}
-use lib.IntN.{ℤ, pos, negsuc}
+use lib.Dec.{eqb}
+use lib.IntN.{ℤ, pos}
 use lib.ListN.{length, getD}
 use Rattle.rules.specs.Limits.{maxLines}
-use Rattle.order.specs.Numbers.{outOfRange}
 use Rattle.order.specs.Orders.{comma}
-
--- a size past that of every 64-bit number
-abbrev pub tooLarge : ℕ
-tooLarge = 2 ^ 63 + 1
-
--- the number that was read, as far as it matters: `tooLarge` for no number and for one that does not fit
-abbrev pub sized : Option ℕ → ℕ
-sized none = tooLarge
-sized (some n) = cond (leb n (2 ^ 63)) n tooLarge
-
-abbrev pub positive : ℕ → ℤ
-positive n = cond (ltb n (2 ^ 63)) (pos n) outOfRange
-
-abbrev pub negative : ℕ → ℤ
-negative zero = pos 0
-negative (suc k) = cond (ltb k (2 ^ 63)) (negsuc k) outOfRange
 
 -- how long the first field is
 abbrev pub fieldLength : List ℕ → ℕ

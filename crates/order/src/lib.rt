@@ -1,7 +1,6 @@
 // An order as a line of text: its fields read, and the quote that it asks for.
-mod number;
 
-use number::field_value;
+use numerals::field_value;
 use quote::Answer;
 use quote::MAX_LINES;
 ghost use mathlib.Core.Path.{_≡_};

@@ -10,7 +10,7 @@ use lib.ListN.{length, getD, take, drop}
 use lib.Seq.{length-take-le}
 use Rattle.rules.specs.Limits.{maxLines}
 use Rattle.quote.proofs.Ranges.{read-back}
-use Rattle.order.specs.Numbers.{outOfRange}
+use Rattle.numerals.specs.Numbers.{outOfRange}
 use Rattle.order.specs.Orders.{values, everyOther}
 use Rattle.order.specs.Steps.{maxFields, inColumn, Column}
 use Rattle.order.proofs.Fields.{length-values}

@@ -8,7 +8,7 @@ use lib.IntN.{ℤ}
 use lib.ListN.{length, take, drop, set}
 use mir.Facts.{toZ-ofZ}
 use Rattle.quote.proofs.Ranges.{read}
-use Rattle.order.specs.Numbers.{fieldOf}
+use Rattle.numerals.specs.Numbers.{fieldOf}
 use Rattle.order.specs.Steps.{fieldLength}
 use Rattle.order.proofs.Placed.{Reading, starting, reading-on, all-placed}
 use Rattle.order.proofs.read_fields.Statement.{statement}

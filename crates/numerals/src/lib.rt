@@ -1,9 +1,9 @@
-// A field's text as a number.
+// A field's text as a number: decimal, with an optional minus sign.
 
 use text::wide;
 ghost use mathlib.Core.Path.{_≡_};
-ghost use Rattle.order.specs.Numbers.{fieldOf, digits};
-ghost use Rattle.order.specs.Steps.{sized, positive as Steps·positive, negative as Steps·negative};
+ghost use Rattle.numerals.specs.Numbers.{fieldOf, digits};
+ghost use Rattle.numerals.specs.Steps.{sized, positive as Steps·positive, negative as Steps·negative};
 
 const MINUS: u8 = 45;
 

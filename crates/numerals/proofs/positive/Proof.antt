@@ -1,4 +1,4 @@
--- `order::number::positive` meets its contract.
+-- `numerals::positive` meets its contract.
 -- Assumes nothing.
 use borrow.Author.Needs.{needs}
 use Prim.Native.Nat.{_^_}
@@ -6,8 +6,8 @@ use mathlib.Core.Path.{_∙_}
 use mir.Syntax.{w64}
 use mir.Facts.{toZ-pos}
 use borrow.Author.Tests.{lt-ltb, le-ltb}
-use Rattle.order.proofs.number.positive.Statement.{statement}
-use Rattle.order.proofs.number.positive.Tie as tie
+use Rattle.numerals.proofs.positive.Statement.{statement}
+use Rattle.numerals.proofs.positive.Tie as tie
 
 cast-result : tie.Need-cast-result
 cast-result c = search needs

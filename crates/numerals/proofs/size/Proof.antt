@@ -1,4 +1,4 @@
--- `order::number::size` meets its contract. The loop's invariant: n and the digits that are left spell what all do.
+-- `numerals::size` meets its contract. The loop's invariant: n and the digits that are left spell what all do.
 -- Assumes nothing.
 use Prim.Native.Nat.{ℕ, _-_, _≤_}
 use native.Mathlib.Omega.{arith}
@@ -6,12 +6,12 @@ use mathlib.Core.Path.{_≡_, sym, ap, _∙_}
 use mathlib.Core.Bool.{true}
 use mathlib.Core.List.{List}
 use lib.ListN.{length, getD, drop}
-use Rattle.order.specs.Numbers.{isDigit, spelt, digits}
-use Rattle.order.specs.Steps.{tooLarge, sized}
-use Rattle.order.proofs.Digits.{below-digits, above-digits, a-digit, no-digits, some-digits}
-use Rattle.order.proofs.Digits.{stops, goes-on, overflows, all-read, sized-some}
-use Rattle.order.proofs.number.size.Statement.{statement}
-use Rattle.order.proofs.number.size.Tie as tie
+use Rattle.numerals.specs.Numbers.{isDigit, spelt, digits}
+use Rattle.numerals.specs.Steps.{tooLarge, sized}
+use Rattle.numerals.proofs.Digits.{below-digits, above-digits, a-digit, no-digits, some-digits}
+use Rattle.numerals.proofs.Digits.{stops, goes-on, overflows, all-read, sized-some}
+use Rattle.numerals.proofs.size.Statement.{statement}
+use Rattle.numerals.proofs.size.Tie as tie
 
 abbrev Inv-loop : tie.InvT-loop
 Inv-loop f n₀ i₀ n i =

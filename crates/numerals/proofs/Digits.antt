@@ -12,8 +12,8 @@ use lib.IntN.{pos, negsuc, _-ℤ_}
 use lib.ListN.{length, getD, drop, drop-of-length-le}
 use lib.Seq.{drop-cons}
 use borrow.Author.Tests.{le-ltb, le-leb, lt-leb, leb-false, eq-eqb, ne-eqb}
-use Rattle.order.specs.Numbers.{minus, isDigit, spelt, digits, signed, negated, outOfRange, fitting, fieldOf}
-use Rattle.order.specs.Steps.{tooLarge, sized, positive, negative}
+use Rattle.numerals.specs.Numbers.{minus, isDigit, spelt, digits, signed, negated, outOfRange, fitting, fieldOf}
+use Rattle.numerals.specs.Steps.{tooLarge, sized, positive, negative}
 use Rattle.rules.proofs.Tests.{by-test}
 
 -- A DIGIT

@@ -1,4 +1,4 @@
--- `order::number::negative` meets its contract: -1 less n - 1 is the number, and it fits.
+-- `numerals::negative` meets its contract: -1 less n - 1 is the number, and it fits.
 -- Assumes nothing.
 use borrow.Author.Needs.{needs}
 use Prim.Native.Nat.{ℕ, zero, suc, _-_, _^_, _≤_, _<_}
@@ -9,10 +9,10 @@ use mir.Syntax.{w64}
 use mir.Val.{toZ}
 use mir.Facts.{toZ-pos, toZ-ofZ}
 use borrow.Author.Tests.{lt-ltb, le-ltb}
-use Rattle.order.specs.Steps.{negative}
-use Rattle.order.proofs.Digits.{minus-one-less}
-use Rattle.order.proofs.number.negative.Statement.{statement}
-use Rattle.order.proofs.number.negative.Tie as tie
+use Rattle.numerals.specs.Steps.{negative}
+use Rattle.numerals.proofs.Digits.{minus-one-less}
+use Rattle.numerals.proofs.negative.Statement.{statement}
+use Rattle.numerals.proofs.negative.Tie as tie
 
 zero-negative : (n : ℕ) → n ≡ 0 → pos 0 ≡ negative n
 zero-negative zero e = refl

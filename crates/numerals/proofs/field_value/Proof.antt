@@ -1,4 +1,4 @@
--- `order::number::field_value` meets its contract, by whether the text is empty and starts with a minus sign.
+-- `numerals::field_value` meets its contract, by whether the text is empty and starts with a minus sign.
 -- Assumes nothing.
 use borrow.Author.Needs.{needs}
 use Prim.Native.Nat.{ℕ, _-_}
@@ -8,11 +8,11 @@ use mathlib.Core.List.{List}
 use lib.ListN.{length, take, drop, length-drop}
 use lib.Seq.{take-all}
 use mir.Facts.{toZ-ofZ}
-use Rattle.order.specs.Numbers.{digits}
-use Rattle.order.specs.Steps.{sized, positive, negative}
-use Rattle.order.proofs.Digits.{plain-field, minus-field, empty-field, field-minus, field-plain}
-use Rattle.order.proofs.number.field_value.Statement.{statement}
-use Rattle.order.proofs.number.field_value.Tie as tie
+use Rattle.numerals.specs.Numbers.{digits}
+use Rattle.numerals.specs.Steps.{sized, positive, negative}
+use Rattle.numerals.proofs.Digits.{plain-field, minus-field, empty-field, field-minus, field-plain}
+use Rattle.numerals.proofs.field_value.Statement.{statement}
+use Rattle.numerals.proofs.field_value.Tie as tie
 
 returns : tie.Need-returns
 returns c = sym (empty-field (c .before .before .args .f .now) (c .if1 .taken))
