@@ -3,7 +3,7 @@
 use Prim.Native.Nat.{ℕ, zero, suc, _+_, _*_, _/_, _%_, _^_, _≤_, _<_}
 use native.Mathlib.Nat.{pow-suc}
 use native.Mathlib.Omega.{arith}
-use mathlib.Core.Path.{_≡_}
+use mathlib.Core.Path.{_≡_, sym, ap, _∙_}
 use mathlib.Core.List.{[], _∷_, _++_}
 use lib.Dec.{ltb}
 use lib.ListN.{length, length-append}
@@ -43,3 +43,11 @@ decimal-digit n h = rw (lt-ltb n 10 h)
 pub decimal-more : (n : ℕ) → n < 2 ^ 64 → 10 ≤ n → decimal (n / 10) ++ ((firstDigit + n % 10) ∷ []) ≡ decimal n
 unfolding decimal
 decimal-more n h big = rw (le-ltb n 10 big, room-in 18 (n / 10) (omega arith))
+
+-- how many there are: one, or one more than its tenth has
+pub length-digit : (n : ℕ) → n < 10 → length (decimal n) ≡ 1
+length-digit n h = ap length (sym (decimal-digit n h))
+
+pub length-more : (n : ℕ) → n < 2 ^ 64 → 10 ≤ n → length (decimal n) ≡ length (decimal (n / 10)) + 1
+length-more n h big =
+    ap length (sym (decimal-more n h big)) ∙ length-append (decimal (n / 10)) ((firstDigit + n % 10) ∷ [])

@@ -7,7 +7,8 @@ use native.Mathlib.Omega.{arith}
 use mathlib.Core.Path.{_≡_, sym, ap, _∙_}
 use mathlib.Core.List.{List, [], _∷_, _++_, append-assoc, append-nil}
 use lib.ListN.{length, getD, take, drop, set, length-append, length-drop, take-append-drop}
-use lib.Seq.{drop-cons, drop-drop, set-at, take-at, take-suc, append-snoc, drop-append-add, length-take-le}
+use lib.Seq.{drop-at, drop-cons, drop-drop, drop-append-add, take-at, take-suc, take-set-le, length-take-le}
+use lib.Seq.{set-at, set-split, append-snoc}
 use Rattle.text.specs.Text.{written, WroteAt}
 
 module _ (out s : List ℕ) (at : ℕ) (fits : at + length s ≤ length out) where
@@ -37,15 +38,34 @@ module _ (out s : List ℕ) (at : ℕ) (fits : at + length s ≤ length out) whe
       ∙ ap (λ (n : ℕ). (take at out ++ (s ++ t)) ++ drop n out) long
 
   -- a byte behind a text
-  pub byte-on : (b : ℕ) → end < length out → set (written out at s) end b ≡ written out at (s ++ (b ∷ []))
-  byte-on b h =
+  behind : (b : ℕ) → front ++ (b ∷ drop (suc end) out) ≡ written out at (s ++ (b ∷ []))
+  behind b =
       let rest = drop (suc end) out in
       let long : suc end ≡ at + length (s ++ (b ∷ [])) = omega (arith, length-append s (b ∷ [])) in
-      ap (λ (x : List ℕ). set (front ++ x) end b) (drop-cons out end 0 h)
-      ∙ set-at front (getD out end 0) rest b end length-front
-      ∙ sym (append-snoc front b rest)
+      sym (append-snoc front b rest)
       ∙ ap (λ (x : List ℕ). x ++ rest) (append-assoc (take at out) s (b ∷ []))
       ∙ ap (λ (n : ℕ). (take at out ++ (s ++ (b ∷ []))) ++ drop n out) long
+
+  -- the byte is written after the text
+  pub byte-on : (b : ℕ) → end < length out → set (written out at s) end b ≡ written out at (s ++ (b ∷ []))
+  byte-on b h =
+      ap (λ (x : List ℕ). set (front ++ x) end b) (drop-cons out end 0 h)
+      ∙ set-at front (getD out end 0) (drop (suc end) out) b end length-front
+      ∙ behind b
+
+  -- the byte is written before the text
+  pub byte-before : (b : ℕ) → end < length out → written (set out end b) at s ≡ written out at (s ++ (b ∷ []))
+  byte-before b h =
+      let split = ap (λ (x : List ℕ). drop end x) (set-split out end b h)
+      ∙ drop-at (take end out) (b ∷ drop (suc end) out) end (length-take-le end out fits) in
+      ap (λ (x : List ℕ). (x ++ s) ++ drop end (set out end b)) (take-set-le at out end b (omega arith))
+      ∙ ap (λ (x : List ℕ). front ++ x) split
+      ∙ behind b
+
+-- a byte alone
+pub byte-at : (out : List ℕ) (at b : ℕ) → at < length out → set out at b ≡ written out at (b ∷ [])
+byte-at out at b h =
+    rw add-one (set-split out at b h ∙ sym (append-snoc (take at out) b (drop (suc at) out)))
 
 pub written-none : (out : List ℕ) (at : ℕ) → written out at [] ≡ out
 written-none out at = rw (add-zero, append-nil) (take-append-drop at out)

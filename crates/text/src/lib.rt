@@ -7,9 +7,10 @@ pub use numbers::wide_size;
 pub use numbers::wide16;
 pub use numbers::wide32;
 ghost use mathlib.Core.List.{_∷_, []};
+ghost use mathlib.Core.Path.{_≡_};
 ghost use Prim.Native.Nat.{_+_, _≤_, _<_};
 ghost use lib.ListN.{length};
-ghost use Rattle.text.specs.Text.{firstDigit, maxDigits, decimal, WroteAt};
+ghost use Rattle.text.specs.Text.{maxDigits, decimal, WroteAt};
 
 // What ends a line.
 pub const LF: u8 = 10;
@@ -38,23 +39,33 @@ pub fn put_bytes(out: &mut [u8], at: usize, s: &[u8]) -> usize
     at + i
 }
 
-// One digit at a place.
-fn put_digit(out: &mut [u8], at: usize, d: u64) -> usize
-    requires { ⌜ (at < length (now out)) × (d < 10) ⌝ }
-    ensures { λ r. ⌜ WroteAt at ((firstDigit + d) ∷ []) (now (out .entry)) (now (out .exit)) r ⌝ }
+// How many digits a number has.
+fn digits(n: u64) -> usize
+    ensures { λ r. ⌜ r ≡ length (decimal n) ⌝ }
 {
-    put_byte(out, at, b'0' + d as u8)
+    let mut v = n;
+    let mut k = 1;
+    while v >= 10 {
+        v = v / 10;
+        k += 1;
+    }
+    k
 }
 
-// The digits of a number from a place on: those of its tenth, then the last. It calls itself at most 19 times.
+// The digits of a number from a place on, the last written first.
 pub fn put_number(out: &mut [u8], at: usize, n: u64) -> usize
     requires { ⌜ at + maxDigits ≤ length (now out) ⌝ }
     ensures { λ r. ⌜ WroteAt at (decimal n) (now (out .entry)) (now (out .exit)) r ⌝ }
     ensures { λ r. ⌜ r ≤ at + maxDigits ⌝ }
 {
-    if n < 10 {
-        return put_digit(out, at, n);
+    let end = at + digits(n);
+    let mut left = n;
+    let mut i = end;
+    while left >= 10 {
+        i -= 1;
+        out[i] = b'0' + (left % 10) as u8;
+        left = left / 10;
     }
-    let last = put_number(out, at, n / 10);
-    put_digit(out, last, n % 10)
+    out[at] = b'0' + left as u8;
+    end
 }
