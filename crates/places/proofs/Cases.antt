@@ -4,7 +4,8 @@ use Prim.Native.Nat.{ℕ}
 use mathlib.Core.Path.{_≡_, refl}
 use mathlib.Core.Bool.{true, false}
 use mathlib.Core.List.{List, [], _∷_}
-use Rattle.places.specs.Places.{pad, unpad, holdsOnly, usedFirst, placeOf, usedOf, appendOf, closeUpOf, takeOutOf}
+use Rattle.places.specs.Places.{pad, unpad, holdsOnly, usedFirst, placeOf, placeFor, usedOf}
+use Rattle.places.specs.Places.{appendOf, joinOf, closeUpOf, takeOutOf}
 
 -- two clients in four places; four clients, one of them twice; and an unused place before a used one
 abbrev two : List ℕ
@@ -41,6 +42,14 @@ place-cases : (placeOf 7 full ≡ 0) × (placeOf 9 gap ≡ 2) × (placeOf 5 two 
 unfolding placeOf
 place-cases = (refl, refl, refl, refl)
 
+-- where 7 stands, the first of two places; 5 would join at the first unused place, and so would 9, which stands behind
+-- one; full places have none for 5
+for-cases :
+    (placeFor 7 full ≡ 0) × (placeFor 3 two ≡ 1) × (placeFor 5 two ≡ 2) × (placeFor 9 gap ≡ 1)
+    × (placeFor 255 two ≡ 2) × (placeFor 5 full ≡ 4) × (placeFor 5 [] ≡ 0)
+unfolding placeFor
+for-cases = (refl, refl, refl, refl, refl, refl, refl)
+
 used-cases : (usedOf two ≡ 2) × (usedOf full ≡ 4) × (usedOf gap ≡ 1) × (usedOf [] ≡ 0)
 unfolding placeOf
 used-cases = (refl, refl, refl, refl)
@@ -51,6 +60,13 @@ append-cases :
     × (appendOf 5 gap ≡ 7 ∷ 5 ∷ 9 ∷ 255 ∷ []) × (appendOf 255 two ≡ two)
 unfolding placeOf appendOf
 append-cases = (refl, refl, refl, refl)
+
+-- who is there does not join again, unless behind an unused place; full places take nobody, and 255 is nobody
+join-cases :
+    (joinOf 5 two ≡ 7 ∷ 3 ∷ 5 ∷ 255 ∷ []) × (joinOf 3 two ≡ two) × (joinOf 5 full ≡ full)
+    × (joinOf 9 gap ≡ 7 ∷ 9 ∷ 9 ∷ 255 ∷ []) × (joinOf 255 two ≡ two)
+unfolding placeFor joinOf
+join-cases = (refl, refl, refl, refl, refl)
 
 -- a place that there is not changes nothing
 close-cases :

@@ -2,18 +2,19 @@
 -- For any number n of places. Assumes nothing.
 use Prim.Native.Nat.{ℕ, zero, suc, _≤_, _<_}
 use mathlib.Core.Path.{_≡_, refl, ap, _∙_}
-use mathlib.Core.Bool.{false}
+use mathlib.Core.Bool.{false, not, or-true}
 use mathlib.Core.List.{List, [], _∷_, _++_}
 use mathlib.Core.Logic.{by-cases}
 use native.Mathlib.Decide.{ℕ-discrete}
 use native.Mathlib.Nat.{not-suc-le-zero, le-of-suc-le-suc}
 use native.Mathlib.Omega.{arith}
 use borrow.Author.Tests.{eq-eqb, ne-eqb, lt-ltb, ltb-false}
-use lib.Dec.{ltb, leb·suc-suc}
-use lib.ListN.{length}
+use lib.Dec.{eqb, ltb, leb·suc-suc}
+use lib.ListN.{length, getD}
 use Rattle.rules.specs.Limits.{unusedPlace}
 use Rattle.rules.specs.Lists.{has, remove}
-use Rattle.places.specs.Places.{pad, placeOf, usedOf, appendOf, closeUpOf, takeOutOf}
+use Rattle.rules.proofs.Tests.{both-false}
+use Rattle.places.specs.Places.{pad, unpad, placeOf, placeFor, usedOf, appendOf, joinOf, closeUpOf, takeOutOf}
 use Rattle.places.proofs.Turns.{close-none}
 use Rattle.places.proofs.Pads.{used-cons, has-pad}
 
@@ -48,6 +49,47 @@ used-pad zero (x ∷ l) u h = absurd (not-suc-le-zero h)
 used-pad (suc n) [] u h = refl
 used-pad (suc n) (x ∷ l) u h =
     let v = used-cons x l u in rw (v .0) (ap suc (used-pad n l (v .1) (le-of-suc-le-suc h)))
+
+-- WHERE X STANDS, OR WOULD JOIN
+
+module _ (x : ℕ) where
+  -- a used place is found exactly where x is in the queue
+  pub stands-at :
+      (q : List ℕ) (d : ℕ) → placeFor x q < length q
+      → not (eqb (getD q (placeFor x q) d) unusedPlace) ≡ has x (unpad q)
+  unfolding placeFor unpad
+  stands-at [] d h = absurd (not-suc-le-zero h)
+  stands-at (y ∷ q) d h =
+      by-cases (ℕ-discrete y unusedPlace)
+      (λ e. rw (eq-eqb y unusedPlace e, or-true (eqb y x), eq-eqb y unusedPlace e))
+      (λ e. by-cases (ℕ-discrete y x)
+      (λ f. rw (eq-eqb y x f, ne-eqb y unusedPlace e, eq-eqb y x f))
+      (λ f. rw (ne-eqb y x f, ne-eqb y unusedPlace e, ne-eqb y x f)
+      (stands-at q d (le-of-suc-le-suc (rw (ne-eqb y x f, ne-eqb y unusedPlace e) at h)))))
+
+  -- x is not in the queue if no place is found
+  pub stands-none : (q : List ℕ) → length q ≤ placeFor x q → has x (unpad q) ≡ false
+  unfolding placeFor unpad
+  stands-none [] h = refl
+  stands-none (y ∷ q) h =
+      by-cases (ℕ-discrete y unusedPlace)
+      (λ e. rw (eq-eqb y unusedPlace e))
+      (λ e. by-cases (ℕ-discrete y x)
+      (λ f. absurd (not-suc-le-zero (rw (eq-eqb y x f) at h)))
+      (λ f. rw (ne-eqb y unusedPlace e, ne-eqb y x f)
+      (stands-none q (le-of-suc-le-suc (rw (ne-eqb y x f, ne-eqb y unusedPlace e) at h)))))
+
+  -- the list with x at its end, if it is not in the list
+  pub join-pad :
+      (n : ℕ) (l : List ℕ) → has unusedPlace l ≡ false → has x l ≡ false → joinOf x (pad n l) ≡ pad n (l ++ (x ∷ []))
+  unfolding pad placeFor joinOf
+  join-pad zero [] u a = refl
+  join-pad zero (y ∷ l) u a = refl
+  join-pad (suc n) [] u a = rw (or-true (eqb unusedPlace x))
+  join-pad (suc n) (y ∷ l) u a =
+      let v = used-cons y l u in
+      let b = both-false (eqb y x) (has x l) a in
+      rw (v .0, b .0) (ap (λ l. y ∷ l) (join-pad n l (v .1) (b .1)))
 
 -- APPEND
 

@@ -2,16 +2,17 @@
 -- Assumes nothing.
 use Prim.Native.Nat.{ℕ, zero, suc, _+_, _≤_, _<_}
 use mathlib.Core.Path.{_≡_, refl, sym, ap, _∙_}
-use mathlib.Core.Bool.{true, false}
+use mathlib.Core.Bool.{true, false, or-true}
 use mathlib.Core.List.{List, [], _∷_}
 use native.Mathlib.Nat.{add-zero, add-suc, suc-add, not-suc-le-zero, le-of-suc-le-suc}
 use native.Mathlib.Numerals.{add-one}
 use native.Mathlib.Omega.{arith}
 use borrow.Author.Tests.{eq-eqb, ne-eqb}
+use lib.Dec.{eqb}
 use lib.ListN.{length, getD, drop, set, drop-of-length-le}
 use lib.Seq.{drop-cons}
 use Rattle.rules.specs.Limits.{unusedPlace}
-use Rattle.places.specs.Places.{holdsOnly, placeOf, closeUpOf}
+use Rattle.places.specs.Places.{holdsOnly, placeOf, placeFor, closeUpOf}
 
 -- the search for x from place i on: found here, found further on, or nowhere
 module _ (x : ℕ) (q : List ℕ) (i : ℕ) where
@@ -27,6 +28,29 @@ module _ (x : ℕ) (q : List ℕ) (i : ℕ) where
   pub place-end : length q ≤ i → i + placeOf x (drop i q) ≡ i
   unfolding placeOf
   place-end h = rw (drop-of-length-le q {i = i} h) (add-zero i)
+
+-- the search for where x stands or would join, from place i on: it is here, here is unused, further on, or nowhere
+module _ (x : ℕ) (q : List ℕ) (i : ℕ) where
+  pub for-here : i < length q → getD q i 0 ≡ x → i + placeFor x (drop i q) ≡ i
+  unfolding placeFor
+  for-here h e = rw (drop-cons q i 0, eq-eqb (getD q i 0) x e) (add-zero i)
+
+  pub for-unused : i < length q → getD q i 0 ≡ unusedPlace → i + placeFor x (drop i q) ≡ i
+  unfolding placeFor
+  for-unused h e =
+      rw (drop-cons q i 0, eq-eqb (getD q i 0) unusedPlace e, or-true (eqb (getD q i 0) x)) (add-zero i)
+
+  pub for-next :
+      i < length q → (getD q i 0 ≡ x → ⊥) → (getD q i 0 ≡ unusedPlace → ⊥)
+      → i + placeFor x (drop i q) ≡ i + 1 + placeFor x (drop (i + 1) q)
+  unfolding placeFor
+  for-next h d e =
+      rw (add-one i, drop-cons q i 0, ne-eqb (getD q i 0) x d, ne-eqb (getD q i 0) unusedPlace e)
+      (add-suc i _ ∙ sym (suc-add i _))
+
+  pub for-end : length q ≤ i → i + placeFor x (drop i q) ≡ i
+  unfolding placeFor
+  for-end h = rw (drop-of-length-le q {i = i} h) (add-zero i)
 
 -- x everywhere from place i on: here and further on, not here, or nothing is left
 module _ (x : ℕ) (q : List ℕ) (i : ℕ) where

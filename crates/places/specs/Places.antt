@@ -1,7 +1,7 @@
 -- Queues in fixed places: the list that places hold, and what the functions of this crate make of any places.
 -- Assumes nothing.
 use Prim.Native.Nat.{ℕ, zero, suc}
-use mathlib.Core.Bool.{Bool, true, _&&_, cond}
+use mathlib.Core.Bool.{Bool, true, _&&_, _||_, cond}
 use mathlib.Core.List.{List, [], _∷_, _++_}
 use lib.Dec.{eqb}
 use lib.ListN.{set}
@@ -41,6 +41,11 @@ unfoldable pub placeOf : ℕ → List ℕ → ℕ
 placeOf x [] = zero
 placeOf x (y ∷ q) = cond (eqb y x) zero (suc (placeOf x q))
 
+-- the first place that holds x or is unused, the number of places if there is none: where x stands, or would join
+unfoldable pub placeFor : ℕ → List ℕ → ℕ
+placeFor x [] = zero
+placeFor x (y ∷ q) = cond (eqb y x || eqb y unusedPlace) zero (suc (placeFor x q))
+
 -- how many places are used: those before the first unused one
 abbrev pub usedOf : List ℕ → ℕ
 usedOf q = placeOf unusedPlace q
@@ -48,6 +53,10 @@ usedOf q = placeOf unusedPlace q
 -- x at the first unused place; the places as they are if there is none
 unfoldable pub appendOf : ℕ → List ℕ → List ℕ
 appendOf x q = set q (usedOf q) x
+
+-- x at the first place that holds it or is unused; the places as they are if x is there, or if there is no such place
+unfoldable pub joinOf : ℕ → List ℕ → List ℕ
+joinOf x q = set q (placeFor x q) x
 
 -- without what stands at a place: the places behind it close up, and an unused one ends them;
 -- the places as they are if there is no such place

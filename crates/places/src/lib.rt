@@ -3,7 +3,9 @@
 
 ghost use mathlib.Core.Path.{_≡_};
 ghost use lib.ListN.{drop};
-ghost use Rattle.places.specs.Places.{holdsOnly, placeOf, usedOf, appendOf, closeUpOf, takeOutOf};
+ghost use Rattle.rules.specs.Lists.{has};
+ghost use Rattle.places.specs.Places.{unpad, holdsOnly, placeOf, placeFor, usedOf};
+ghost use Rattle.places.specs.Places.{appendOf, joinOf, closeUpOf, takeOutOf};
 
 // What an unused place holds.
 pub const UNUSED: u8 = 255;
@@ -22,6 +24,35 @@ pub fn find(q: &[u8], x: u8) -> usize
     i
 }
 
+// The first place that holds x or is unused, or the number of places if there is none: where x stands, or would join.
+pub fn place_for(q: &[u8], x: u8) -> usize
+    ensures { λ r. ⌜ r ≡ placeFor x (now (q .entry)) ⌝ }
+{
+    let mut i = 0;
+    while i < q.len() {
+        let y = q[i];
+        if y == x {
+            return i;
+        }
+        if y == UNUSED {
+            return i;
+        }
+        i += 1;
+    }
+    i
+}
+
+// Whether x is in the queue: at a place before the first unused one.
+pub fn stands(q: &[u8], x: u8) -> bool
+    ensures { λ r. ⌜ r ≡ has x (unpad (now (q .entry))) ⌝ }
+{
+    let at = place_for(q, x);
+    if q.len() <= at {
+        return false;
+    }
+    q[at] != UNUSED
+}
+
 // How many places are used: those before the first unused one.
 pub fn used(q: &[u8]) -> usize
     ensures { λ r. ⌜ r ≡ usedOf (now (q .entry)) ⌝ }
@@ -34,6 +65,16 @@ pub fn append(q: &mut [u8], x: u8)
     ensures { λ _. ⌜ now (q .exit) ≡ appendOf x (now (q .entry)) ⌝ }
 {
     let at = used(q);
+    if at < q.len() {
+        q[at] = x;
+    }
+}
+
+// x joins the end of the queue, if it is not there and there is an unused place.
+pub fn join(q: &mut [u8], x: u8)
+    ensures { λ _. ⌜ now (q .exit) ≡ joinOf x (now (q .entry)) ⌝ }
+{
+    let at = place_for(q, x);
     if at < q.len() {
         q[at] = x;
     }
