@@ -34,6 +34,7 @@ module _ (v : Setup) (s : State) (sound : Sound (setupOf v) s) where
           arith,
           distinct-below maxClients (c ∷ s .background) (i .not-behind, sound .background .once) below,
         );
+        absent = i .not-behind;
       }
     where
       below : (x : ℕ) → has x (c ∷ s .background) ≡ true → x < maxClients

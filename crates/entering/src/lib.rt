@@ -41,7 +41,7 @@ fn behind(q: Queues, c: Client) -> Queues
     ensures { λ r. ⌜ Leaves (λ v s. Ready v s (c .0)) (λ u s. rules.behind (c .0) s) q r ⌝ }
 {
     let mut b = q.background;
-    places::append(&mut b, rows::byte(c));
+    places::join(&mut b, rows::byte(c));
     let mut n = q;
     n.background = b;
     n

@@ -1,7 +1,7 @@
 -- A law for each part of the relation between queues and states: what stands there, and the part with another in it.
 -- Assumes nothing.
 use Prim.Native.Nat.{_<_, suc, ℕ}
-use mathlib.Core.Bool.{Bool, _&&_, and-true, and-false}
+use mathlib.Core.Bool.{Bool, false, _&&_, and-true, and-false}
 use mathlib.Core.List.{List, [], _++_, _∷_}
 use mathlib.Core.Path.{_∙_, _≡_, ap, refl, sym}
 use native.Mathlib.Omega.{arith}
@@ -15,9 +15,9 @@ use Rattle.rules.specs.State.{State, withBackground, withCharge, withGlobal, wi
 use Rattle.rules.proofs.Tests.{by-test, upd-at}
 use Rattle.sets.specs.Sets.{member, setOf}
 use Rattle.sets.proofs.Laws.{member-setOf, setOf-same, setOf-upd}
-use Rattle.places.specs.Places.{appendOf, closeUpOf, pad, takeOutOf, usedOf}
+use Rattle.places.specs.Places.{appendOf, closeUpOf, joinOf, pad, takeOutOf, usedOf}
 use Rattle.places.proofs.Pads.{has-pad, heads-pad}
-use Rattle.places.proofs.Queues.{append-pad, close-first, takeOut-pad, used-pad}
+use Rattle.places.proofs.Queues.{append-pad, close-first, join-pad, takeOut-pad, used-pad}
 use Rattle.parts.specs.Parts.{putBackground, putGlobal, putLine, putRoom, putServer}
 use Rattle.gate.specs.Shown.{serverOf, setupOf, showRooms}
 use Rattle.parts.specs.Shows.{Fits, ServerFits, ShowsLines, ShowsList, ShowsQueues, ShowsService}
@@ -50,6 +50,14 @@ module _ {n : ℕ} {l q : List ℕ} (h : ShowsList n l q) where
   appended c short known =
       record {
         places = rw (h .places) (append-pad c n l (fits-used (h .fits)));
+        fits = fits-snoc c (h .fits) short known;
+      }
+
+  -- and where it stands or would join, if it is not there
+  pub joins : (c : ℕ) → length l < n → c < maxClients → has c l ≡ false → ShowsList n (l ++ (c ∷ [])) (joinOf c q)
+  joins c short known absent =
+      record {
+        places = rw (h .places) (join-pad c n l (fits-used (h .fits)) absent);
         fits = fits-snoc c (h .fits) short known;
       }
 
