@@ -68,7 +68,8 @@ one-queues p q h k =
 fits-unpad : (n : ℕ) (l : List ℕ) → Fits n l → unpad (pad n l) ≡ l
 fits-unpad n l f = unpad-pad n l (no-unused l (λ x e. omega (arith, f .used x e))) (f .short)
 
-list-back : {n : ℕ} {l q : List ℕ} → ShowsList n l q → unpad q ≡ l
+-- places that show a list hold it
+pub list-back : {n : ℕ} {l q : List ℕ} → ShowsList n l q → unpad q ≡ l
 list-back {n} {l} h = rw (h .places) (fits-unpad n l (h .fits))
 
 -- READING WHAT IS SHOWN

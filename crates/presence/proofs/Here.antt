@@ -7,7 +7,7 @@ use native.Mathlib.Omega.{arith}
 use lib.Dec.{eqb}
 use lib.ListN.{getD}
 use Rattle.rules.specs.Limits.{maxSize}
-use Rattle.rules.specs.Lists.{heads}
+use Rattle.rules.specs.Lists.{has, heads}
 use Rattle.rules.specs.Queues.{waits}
 use Rattle.rules.specs.State.{State, serves}
 use Rattle.rules.specs.Step.{present}
@@ -19,6 +19,7 @@ use Rattle.parts.specs.declared.Queues.{Queues}
 use Rattle.gate.specs.declared.Setup.{Setup}
 use Rattle.parts.proofs.Parts as parts
 use Rattle.parts.proofs.Parts.{has-is, heads-is, line-at}
+use Rattle.parts.proofs.Reading.{list-back}
 use Rattle.rows.specs.Homes.{Home}
 use Rattle.presence.specs.Presence.{presentIn, waitsIn}
 
@@ -45,4 +46,4 @@ module _ {v : Setup} {s : State} {q : Queues} (h : ShowsQueues v s q) {c k : ℕ
         ≡ present (setupOf v) s c
     present-is =
         ap₂ _||_ waits-is
-        (ap₂ _||_ (has-is (h .background) (home .known)) (ap (λ x. serves x c) (h .service .server)))
+        (ap₂ _||_ (ap (has c) (list-back (h .background))) (ap (λ x. serves x c) (h .service .server)))

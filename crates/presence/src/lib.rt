@@ -29,7 +29,7 @@ pub fn present(line: Line, room: u64, background: &[u8; 64], server: Server, c: 
     if waits(line, room, c) {
         return true;
     }
-    if rows::holds(background, rows::byte(c)) {
+    if places::stands(background, rows::byte(c)) {
         return true;
     }
     serving::serves(server, rows::index(c))

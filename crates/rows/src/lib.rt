@@ -100,18 +100,12 @@ pub fn front(l: Line) -> u8
     q[0]
 }
 
-// Whether one of the places holds x.
-pub fn holds(q: &[u8], x: u8) -> bool
-    ensures { λ r. ⌜ r ≡ has x (now (q .entry)) ⌝ }
-{
-    places::find(q, x) < q.len()
-}
-
+// Whether one of the line's places holds x.
 pub fn line_holds(l: Line, x: u8) -> bool
     ensures { λ r. ⌜ r ≡ has x (l .places) ⌝ }
 {
     let q = l.places;
-    holds(&q, x)
+    places::find(&q, x) < q.len()
 }
 
 // The line with x at its end.

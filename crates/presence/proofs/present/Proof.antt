@@ -13,8 +13,8 @@ returns c = rw (← c .before .waits .ensures, c .if1 .taken)
 byte-requires : tie.Need-byte-requires
 byte-requires c κs = search needs
 
-holds-requires : tie.Need-holds-requires
-holds-requires c κs = search needs
+stands-requires : tie.Need-stands-requires
+stands-requires c κs = search needs
 
 returns-2 : tie.Need-returns-2
 returns-2 c =
@@ -22,7 +22,7 @@ returns-2 c =
       ← c .before .before .before .before .before .waits .ensures,
       c .before .before .before .before .if1 .left,
       ← c .before .before .byte .ensures,
-      ← c .before .holds .ensures,
+      ← c .before .stands .ensures,
       c .if2 .taken,
     )
 
@@ -38,7 +38,7 @@ returns-3 c =
       ← c .before .before .before .before .before .before .before .waits .ensures,
       c .before .before .before .before .before .before .if1 .left,
       ← c .before .before .before .before .byte .ensures,
-      ← c .before .before .before .holds .ensures,
+      ← c .before .before .before .stands .ensures,
       c .before .before .if2 .left,
     )
     (rw (c .before .index .ensures, ← c .before .before .before .before .byte .ensures) at (c .serves .ensures))
@@ -50,7 +50,7 @@ present-spec =
     waits-requires
     returns
     byte-requires
-    holds-requires
+    stands-requires
     returns-2
     index-requires
     serves-requires
