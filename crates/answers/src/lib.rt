@@ -19,10 +19,10 @@ pub enum Answer {
     Unsound,
 }
 
-// The answer, and the queues after.
+// The queues after an event, and the answer. In this order no copy of the queues begins inside a word.
 pub struct Outcome {
-    pub answer: Answer,
     pub queues: Queues,
+    pub answer: Answer,
 }
 
 // An answer's number.

@@ -14,7 +14,7 @@ ghost use lib.ListN.{getD, set};
 ghost use Rattle.rules.specs.Limits.{maxClients};
 ghost use Rattle.rules.specs.Events as rules;
 ghost use Rattle.gate.specs.Shown.{serverOf};
-ghost use Rattle.parts.specs.Shows.{Homes, Lent, ServerFits};
+ghost use Rattle.parts.specs.Shows.{Homes, ServerFits};
 ghost use Rattle.answers.specs.Answers.{Answering};
 
 // INVOKE
@@ -80,12 +80,11 @@ pub fn reply<'a>(
     homes: &'a [u8; 64],
     sizes: &'a [u8; 8],
     priorities: &'a [u16; 64],
-    clients: usize,
 ) -> Outcome
-    requires { ⌜ ServerFits (serverOf (q .service .server)) × Homes (now homes) × (clients ≤ maxClients) ⌝ }
+    requires { ⌜ ServerFits (serverOf (q .service .server)) × Homes (now homes) ⌝ }
     ensures { λ r.
         ⌜ ((cs : List ℕ) → Answering (λ v. (now (homes .entry) ≡ v .homes)
-        × Lent v (now (sizes .entry)) (now (priorities .entry)) clients) rules.reply q cs r cs) ⌝ }
+        × (now (sizes .entry) ≡ v .sizes) × (now (priorities .entry) ≡ v .priorities)) rules.reply q cs r cs) ⌝ }
 {
     let y = q.service;
     let server = y.server;
@@ -95,7 +94,7 @@ pub fn reply<'a>(
             queues: q,
         };
     }
-    let n = leaving::replied(q, homes, sizes, priorities, clients);
+    let n = leaving::replied(q, homes, sizes, priorities);
     Outcome {
         answer: Answer::Accepted,
         queues: n,
@@ -115,7 +114,8 @@ pub fn abort<'a>(
     requires { ⌜ Homes (now homes) × (clients ≤ maxClients) ⌝ }
     ensures { λ r.
         ⌜ ((cs : List ℕ) → Answering (λ v. (now (kinds .entry) ≡ v .kinds) × (now (homes .entry) ≡ v .homes)
-        × Lent v (now (sizes .entry)) (now (priorities .entry)) clients) (rules.abort (c .0)) q cs r cs) ⌝ }
+        × (now (sizes .entry) ≡ v .sizes) × (now (priorities .entry) ≡ v .priorities) × (clients ≡ v .clients))
+        (rules.abort (c .0)) q cs r cs) ⌝ }
 {
     if clients <= rows::index(c) {
         return Outcome {
@@ -148,7 +148,7 @@ pub fn abort<'a>(
             queues: q,
         };
     }
-    let n = leaving::aborted(q, homes, sizes, priorities, clients, c);
+    let n = leaving::aborted(q, homes, sizes, priorities, c);
     Outcome {
         answer: Answer::Accepted,
         queues: n,

@@ -1,35 +1,40 @@
--- Sets that are built client by client and cluster by cluster, and their counts.
+-- Searches for one that passes, and sets that are built cluster by cluster.
 -- Assumes nothing.
-use Prim.Native.Nat.{_+_, _<_, _≤_, suc, zero, ℕ}
-use mathlib.Core.Bool.{Bool, _&&_, _||_, cond, false, true, and-false, or-comm}
-use mathlib.Core.Path.{_∙_, _≡_, ap, refl, sym}
+use Prim.Native.Nat.{_<_, _≤_, suc, zero, ℕ}
+use mathlib.Core.Bool.{Bool, _&&_, _||_, false, true, and-false, or-comm}
+use mathlib.Core.Path.{_∙_, _≡_, refl, sym}
 use native.Mathlib.Omega.{arith}
 use lib.Dec.{eqb, ltb}
 use borrow.Author.Tests.{eqb-false, eqb-true, le-ltb, lt-ltb, ltb-false, ltb-true}
 use Rattle.rules.specs.Limits.{maxClients}
-use Rattle.rules.specs.Lists.{countBelow, someBelow}
+use Rattle.rules.specs.Lists.{someBelow}
 use Rattle.rules.proofs.Counts.{none-below}
 use Rattle.rules.proofs.Tests.{by-test, clash}
-use Rattle.sets.specs.Sets.{countOf, setOf, unionOf, withOf}
-use Rattle.sets.proofs.Laws.{member-setOf, setOf-more, setOf-none}
-use Rattle.sets.proofs.Laws.{setOf-same, setOf-skip}
-use Rattle.sets.proofs.Words.{countOf-setOf}
+use Rattle.sets.specs.Sets.{setOf, unionOf}
+use Rattle.sets.proofs.Laws.{member-setOf, setOf-none, setOf-same}
 
--- the next number joins if it passes the test
-pub with-more : (n : ℕ) (p : ℕ → Bool) → n < maxClients
-    → cond (p n) (withOf (setOf n p) n) (setOf n p) ≡ setOf (n + 1) p
-with-more n p h = by-test (p n) (λ e. rw e (setOf-more maxClients n p h e)) (λ e. rw e (setOf-skip n p e))
-
-pub count-same : (p q : ℕ → Bool) (n : ℕ) → ((j : ℕ) → j < n → p j ≡ q j) → countBelow p n ≡ countBelow q n
-count-same p q zero h = refl
-count-same p q (suc n) h = rw (h n (omega arith), count-same p q n (λ j l. h j (omega arith)))
-
+-- tests that agree
 pub some-same : (p q : ℕ → Bool) (n : ℕ) → ((j : ℕ) → j < n → p j ≡ q j) → someBelow p n ≡ someBelow q n
 some-same p q zero h = refl
 some-same p q (suc n) h = rw (h n (omega arith), some-same p q n (λ j l. h j (omega arith)))
 
+-- one that passes, and none
 pub some-is : (p : ℕ → Bool) (n x : ℕ) → x < n → p x ≡ true → someBelow p n ≡ true
 some-is p n x h e = by-test (someBelow p n) (λ t. t) (λ t. clash e (none-below p n x t h))
+
+pub some-not : (p : ℕ → Bool) (n : ℕ) → ((x : ℕ) → x < n → p x ≡ false) → someBelow p n ≡ false
+some-not p zero h = refl
+some-not p (suc n) h = rw (h n (omega arith), some-not p n (λ x l. h x (omega arith)))
+
+-- tests that agree below n, of which one fails from there on
+pub some-cut : (p q : ℕ → Bool) (n w : ℕ) → n ≤ w → ((x : ℕ) → x < n → p x ≡ q x)
+    → ((x : ℕ) → x < w → n ≤ x → p x ≡ false) → someBelow p w ≡ someBelow q n
+some-cut p q n zero l h past = let e : n ≡ 0 = omega arith in rw e
+some-cut p q n (suc w) l h past =
+    by-test (eqb n (suc w))
+    (λ e. rw (eqb-true n (suc w) e) (some-same p q (suc w) (λ x b. h x (omega (arith, eqb-true n (suc w) e)))))
+    (λ e. rw (past w (omega arith) (omega (arith, eqb-false n (suc w) e)))
+    (some-cut p q n w (omega (arith, eqb-false n (suc w) e)) h (λ x b m. past x (omega arith) m)))
 
 -- ONE CLUSTER MORE
 
@@ -65,7 +70,3 @@ pub union-all : (p : ℕ → Bool) (home : ℕ → ℕ) (k : ℕ) → ((c : ℕ)
     → setOf maxClients (λ c. p c && ltb (home c) k) ≡ setOf maxClients p
 union-all p home k h =
     setOf-same maxClients _ _ (λ c l. by-test (p c) (λ e. rw (e, lt-ltb (home c) k (h c e))) (λ e. rw e))
-
--- a count of bits, as the code makes it
-pub counted : (n : ℕ) (p : ℕ → Bool) → n ≤ maxClients → {x y : ℕ} → x ≡ setOf n p → y ≡ countOf x → y ≡ countBelow p n
-counted n p h e q = q ∙ ap countOf e ∙ countOf-setOf n p h

@@ -10,7 +10,7 @@ use lib.ListN.{getD}
 use borrow.Author.Tests.{eqb-false, eqb-true}
 use Rattle.rules.specs.Events.{charged, precedes}
 use Rattle.rules.specs.Limits.{maxClients, maxClusters}
-use Rattle.rules.specs.Lists.{has}
+use Rattle.rules.specs.Lists.{countBelow, has}
 use Rattle.rules.specs.Queues.{inRoom, waits}
 use Rattle.rules.specs.Rank.{outranks}
 use Rattle.rules.specs.Setup.{realTime}
@@ -18,23 +18,26 @@ use Rattle.rules.specs.Sound.{Sound}
 use Rattle.rules.specs.State.{State}
 use Rattle.rules.proofs.Setups.{allowed}
 use Rattle.rules.proofs.Tests.{both-true, by-test, either-true, not-so}
-use Rattle.sets.specs.Sets.{member, setOf, unionOf}
-use Rattle.sets.proofs.Laws.{member-setOf, setOf-cut}
+use Rattle.sets.specs.Sets.{countOf, member, setOf, unionOf}
+use Rattle.sets.proofs.Counts.{count-cut}
+use Rattle.sets.proofs.Laws.{member-setOf, setOf-same}
+use Rattle.sets.proofs.Words.{countOf-setOf}
 use Rattle.gate.specs.Shown.{setupOf, showRooms}
 use Rattle.parts.specs.Shows.{ShowsLines}
 use Rattle.gate.specs.declared.Line.{Line}
 use Rattle.gate.specs.declared.Setup.{Setup}
 use Rattle.parts.proofs.Parts.{has-is, line-at, room-at}
+use Rattle.ranks.specs.Ranks.{bestIn, outrankingIn, rankBy}
 use Rattle.ranks.proofs.Ranks.{rank-is}
-use Rattle.charging.specs.Charged.{chargedIn, precedesIn, waitingIn}
-use Rattle.charging.proofs.Building.{count-same, union-all, union-next, union-none}
+use Rattle.charging.specs.Charged.{waitingIn}
+use Rattle.charging.proofs.Building.{union-all, union-next, union-none}
 
 -- those of the clusters below k, as the code makes the set
-abbrev pub chargedBelow : Line → List Line → List ℕ → List ℕ → List ℕ → ℕ → ℕ → ℕ
-chargedBelow d ls rs ms ps n zero = 0
-chargedBelow d ls rs ms ps n (suc k) =
-    unionOf (chargedBelow d ls rs ms ps n k)
-    (setOf n (chargedIn ps (waitingIn (getD ls k d .places) (getD rs k 0)) n (getD ms k 0)))
+abbrev pub chargedBelow : Line → List Line → List ℕ → List ℕ → List ℕ → ℕ → ℕ
+chargedBelow d ls rs ms ps zero = 0
+chargedBelow d ls rs ms ps (suc k) =
+    unionOf (chargedBelow d ls rs ms ps k)
+    (setOf maxClients (bestIn ps (waitingIn (getD ls k d .places) (getD rs k 0)) (getD ms k 0)))
 
 module _ (v : Setup) {s : State} (sound : Sound (setupOf v) s) where
   abbrev pub isCharged : ℕ → Bool
@@ -46,12 +49,14 @@ module _ (v : Setup) {s : State} (sound : Sound (setupOf v) s) where
       either-true (has c (s .lines (setupOf v .cluster c))) (s .room c) e
       (sound .lines (setupOf v .cluster c) .real c) (λ q. sound .room c q .real)
 
+  waits-known : (c : ℕ) → waits (setupOf v) s c ≡ true → c < v .clients
+  waits-known c e =
+      either-true (has c (s .lines (setupOf v .cluster c))) (s .room c) e
+      (sound .lines (setupOf v .cluster c) .known c) (λ q. sound .room c q .known)
+
   pub charged-known : (c : ℕ) → isCharged c ≡ true → c < v .clients
   charged-known c e =
-      let z = both-true (realTime (setupOf v) c) (waits (setupOf v) s c && _) e in
-      either-true (has c (s .lines (setupOf v .cluster c))) (s .room c)
-      (both-true (waits (setupOf v) s c) _ (z .1) .0)
-      (sound .lines (setupOf v .cluster c) .known c) (λ q. sound .room c q .known)
+      waits-known c (both-true (waits (setupOf v) s c) _ (both-true (realTime (setupOf v) c) _ e .1) .0)
 
   -- who is in the line or the room of k waits, and k is its cluster
   waits-in : (k c : ℕ)
@@ -75,30 +80,43 @@ module _ (v : Setup) {s : State} (sound : Sound (setupOf v) s) where
       abbrev waiting : ℕ
       waiting = waitingIn (getD ls k d .places) (getD rs k 0)
 
-      known : (c : ℕ) → c < v .clients → c < maxClients
-      known c b = omega (arith, allowed (setupOf v) (sound .setup) .few-clients)
-
-      member-waiting : (c : ℕ) → c < v .clients
+      member-waiting : (c : ℕ) → c < maxClients
           → member waiting c ≡ waits (setupOf v) s c && eqb (setupOf v .cluster c) k
       member-waiting c b =
-          member-setOf maxClients (λ x. has x (getD ls k d .places) || member (getD rs k 0) x) c (known c b)
-          ∙ ap₂ (λ x y. x || y) (has-is (line-at lines k low d) (known c b))
+          member-setOf maxClients (λ x. has x (getD ls k d .places) || member (getD rs k 0) x) c b
+          ∙ ap₂ (λ x y. x || y) (has-is (line-at lines k low d) b)
           (ap (λ x. member x c) (room-at (setupOf v .cluster) (s .room) rooms low 0)
-          ∙ member-setOf maxClients (inRoom (setupOf v) s k) c (known c b))
+          ∙ member-setOf maxClients (inRoom (setupOf v) s k) c b)
           ∙ waits-in k c
 
-      charged-is : (c : ℕ) → c < v .clients
-          → chargedIn (v .priorities) waiting (v .clients) (setupOf v .size k) c
-          ≡ isCharged c && eqb (setupOf v .cluster c) k
+      -- those who outrank c are as many among all numbers as among the clients
+      outranking-is : (c : ℕ) → setupOf v .cluster c ≡ k
+          → countOf (outrankingIn (v .priorities) waiting c)
+          ≡ countBelow (precedes (setupOf v) (outranks (setupOf v) s) s c) (v .clients)
+      outranking-is c e =
+          countOf-setOf maxClients (λ x. member waiting x && rankBy (v .priorities) x c) (omega arith)
+          ∙ sym (count-cut (precedes (setupOf v) (outranks (setupOf v) s) s c)
+          (λ x. member waiting x && rankBy (v .priorities) x c) (v .clients) maxClients
+          (allowed (setupOf v) (sound .setup) .few-clients)
+          (λ x l. rw (rank-is v s, member-waiting x (known x l), e))
+          (λ x l past. rw (
+            member-waiting x l,
+            not-so (waits (setupOf v) s x)
+                (λ z. omega (arith, waits-known x z)),
+          )))
+        where
+          known : (x : ℕ) → x < v .clients → x < maxClients
+          known x l = omega (arith, allowed (setupOf v) (sound .setup) .few-clients)
+
+      charged-is : (c : ℕ) → c < maxClients
+          → bestIn (v .priorities) waiting (setupOf v .size k) c ≡ isCharged c && eqb (setupOf v .cluster c) k
+      unfolding bestIn
       charged-is c b =
           rw (member-waiting c b)
           (go (realTime (setupOf v) c) (waits (setupOf v) s c) (eqb (setupOf v .cluster c) k) _ _ (waits-real c)
           (λ t.
           let e = eqb-true (setupOf v .cluster c) k t in
-          ap₂ (λ x y. ltb x y)
-          (count-same (precedesIn (v .priorities) waiting c) (precedes (setupOf v) (outranks (setupOf v) s) s c)
-          (v .clients) (λ x l. rw (rank-is v s, member-waiting x l, e)))
-          (ap (setupOf v .size) (sym e))))
+          ap₂ (λ x y. ltb x y) (outranking-is c e) (ap (setupOf v .size) (sym e))))
         where
           go : (r x e y z : Bool) → (x ≡ true → r ≡ true) → (e ≡ true → y ≡ z)
               → (x && e) && y ≡ (r && (x && z)) && e
@@ -108,21 +126,18 @@ module _ (v : Setup) {s : State} (sound : Sound (setupOf v) s) where
 
     -- the charged clients of the clusters below k
     charged-below : (k : ℕ) → k ≤ maxClusters
-        → chargedBelow d ls rs (v .sizes) (v .priorities) (v .clients) k
+        → chargedBelow d ls rs (v .sizes) (v .priorities) k
         ≡ setOf maxClients (λ c. isCharged c && ltb (setupOf v .cluster c) k)
     charged-below zero h = union-none isCharged (setupOf v .cluster)
     charged-below (suc k) h =
         rw (
           charged-below k (omega arith),
-          setOf-cut (v .clients) maxClients (chargedIn (v .priorities) (waiting k (omega arith)) (v .clients) _)
-              (λ c. isCharged c && eqb (setupOf v .cluster c) k)
-              (allowed (setupOf v) (sound .setup) .few-clients) (charged-is k (omega arith))
-              (λ j l past. rw (not-so (isCharged j) (λ z. omega (arith, charged-known j z)))),
+          setOf-same maxClients (bestIn (v .priorities) (waiting k (omega arith)) (setupOf v .size k))
+              (λ c. isCharged c && eqb (setupOf v .cluster c) k) (charged-is k (omega arith)),
         ) (union-next isCharged (setupOf v .cluster) k)
 
     -- and of all
-    pub charged-all : chargedBelow d ls rs (v .sizes) (v .priorities) (v .clients) (v .clusters)
-        ≡ setOf maxClients isCharged
+    pub charged-all : chargedBelow d ls rs (v .sizes) (v .priorities) (v .clusters) ≡ setOf maxClients isCharged
     charged-all =
         let a = allowed (setupOf v) (sound .setup) in
         charged-below (v .clusters) (a .few-clusters)

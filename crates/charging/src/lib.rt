@@ -5,20 +5,21 @@ use gate::Cluster;
 use gate::Gate;
 use gate::Line;
 ghost use mathlib.Core.Path.{_≡_};
-ghost use mathlib.Core.Bool.{false, cond};
-ghost use Prim.Native.Nat.{_≤_, _<_};
+ghost use mathlib.Core.Bool.{false};
+ghost use Prim.Native.Nat.{_+_, _≤_, _<_};
+ghost use lib.Dec.{ltb};
 ghost use lib.ListN.{set};
-ghost use Rattle.rules.specs.Limits.{maxClusters, maxClients};
+ghost use Rattle.rules.specs.Limits.{maxClusters, maxClients, maxCharge};
 ghost use Rattle.rules.specs.Lists.{someBelow};
 ghost use Rattle.rules.specs.State.{State};
 ghost use Rattle.rules.specs.Rank.{outranks};
 ghost use Rattle.rules.specs.Events.{charged};
 ghost use Rattle.rules.specs.Sound.{Sound};
-ghost use Rattle.sets.specs.Sets.{setOf, withOf};
+ghost use Rattle.sets.specs.Sets.{setOf};
 ghost use Rattle.gate.specs.declared.Setup as given;
 ghost use Rattle.gate.specs.Shown.{setupOf, showRooms};
 ghost use Rattle.parts.specs.Shows.{ShowsLines};
-ghost use Rattle.charging.specs.Charged.{waitingIn, precedesIn, chargedIn, overchargesIn, grownAt, grown};
+ghost use Rattle.charging.specs.Charged.{waitingIn, overchargesIn, grown};
 
 // WHO WAITS
 
@@ -36,65 +37,7 @@ fn waiting_in(l: Line, room: u64) -> u64
     s
 }
 
-// WHO OUTRANKS
-
-// The set, with d if it waits and outranks c.
-fn with_higher(priorities: &[u16; 64], waiting: u64, c: usize, d: usize, s: u64) -> u64
-    requires { ⌜ (c < maxClients) × (d < maxClients) ⌝ }
-    ensures { λ r. ⌜ r ≡ cond (precedesIn (now (priorities .entry)) waiting c d) (withOf s d) s ⌝ }
-{
-    if !sets::member(waiting, d) {
-        return s;
-    }
-    if ranks::outranks(priorities, d, c) {
-        return sets::with(s, d);
-    }
-    s
-}
-
-// The waiting clients below n that outrank c.
-fn outranking(priorities: &[u16; 64], waiting: u64, c: usize, n: usize) -> u64
-    requires { ⌜ (c < maxClients) × (n ≤ maxClients) ⌝ }
-    ensures { λ r. ⌜ r ≡ setOf n (precedesIn (now (priorities .entry)) waiting c) ⌝ }
-{
-    let mut s: u64 = 0;
-    let mut d: usize = 0;
-    while d < n {
-        s = with_higher(priorities, waiting, c, d, s);
-        d += 1;
-    }
-    s
-}
-
 // WHO IS CHARGED
-
-// The set, with c if it waits and fewer than m of the waiting clients below n outrank it.
-fn with_charged(priorities: &[u16; 64], waiting: u64, n: usize, m: usize, c: usize, s: u64) -> u64
-    requires { ⌜ (c < maxClients) × (n ≤ maxClients) ⌝ }
-    ensures { λ r. ⌜ r ≡ cond (chargedIn (now (priorities .entry)) waiting n m c) (withOf s c) s ⌝ }
-{
-    if !sets::member(waiting, c) {
-        return s;
-    }
-    if sets::count(outranking(priorities, waiting, c, n)) < m {
-        return sets::with(s, c);
-    }
-    s
-}
-
-// The charged clients below n of a cluster of size m.
-fn charged_among(priorities: &[u16; 64], waiting: u64, n: usize, m: usize) -> u64
-    requires { ⌜ n ≤ maxClients ⌝ }
-    ensures { λ r. ⌜ r ≡ setOf n (chargedIn (now (priorities .entry)) waiting n m) ⌝ }
-{
-    let mut s: u64 = 0;
-    let mut c: usize = 0;
-    while c < n {
-        s = with_charged(priorities, waiting, n, m, c, s);
-        c += 1;
-    }
-    s
-}
 
 // The charged clients.
 pub fn charged(
@@ -103,12 +46,11 @@ pub fn charged(
     sizes: &[u8; 8],
     priorities: &[u16; 64],
     clusters: usize,
-    clients: usize,
 ) -> u64
-    requires { ⌜ (clusters ≤ maxClusters) × (clients ≤ maxClients) ⌝ }
+    requires { ⌜ clusters ≤ maxClusters ⌝ }
     ensures { λ r.
         ⌜ ((v : given.Setup) (s : State) → now (sizes .entry) ≡ v .sizes → now (priorities .entry) ≡ v .priorities
-        → clusters ≡ v .clusters → clients ≡ v .clients → ShowsLines (s .lines) lines
+        → clusters ≡ v .clusters → ShowsLines (s .lines) lines
         → now (rooms .entry) ≡ showRooms (setupOf v .cluster) (s .room) → Sound (setupOf v) s
         → r ≡ setOf maxClients (charged (setupOf v) (outranks (setupOf v) s) s)) ⌝ }
 {
@@ -117,7 +59,7 @@ pub fn charged(
     while k < clusters {
         let waiting = waiting_in(lines[k], rooms[k]);
         let m = rows::size(sizes, Cluster(k));
-        s = sets::union(s, charged_among(priorities, waiting, clients, m));
+        s = sets::union(s, ranks::best_in(priorities, waiting, m));
         k += 1;
     }
     s
@@ -125,51 +67,37 @@ pub fn charged(
 
 // CHARGES
 
-// Whether c is in the set, and n units more would carry its charge past the limit.
-fn overcharged(charges: &[u32; 64], set: u64, n: u16, c: usize) -> bool
-    requires { ⌜ c < maxClients ⌝ }
-    ensures { λ r. ⌜ r ≡ overchargesIn (now (charges .entry)) set n c ⌝ }
+// Whether n units more would carry a charge past the limit.
+fn overcharged(charge: u32, n: u16) -> bool
+    ensures { λ r. ⌜ r ≡ ltb maxCharge (charge + n) ⌝ }
 {
-    if !sets::member(set, c) {
-        return false;
-    }
-    Gate::MAX_CHARGE - (n as u32) < charges[c]
+    Gate::MAX_CHARGE - (n as u32) < charge
 }
 
 // Whether n units more would carry the charge of one of the clients in the set past the limit.
-pub fn overcharges(charges: &[u32; 64], set: u64, n: u16, clients: usize) -> bool
-    requires { ⌜ clients ≤ maxClients ⌝ }
-    ensures { λ r. ⌜ r ≡ someBelow (overchargesIn (now (charges .entry)) set n) clients ⌝ }
+pub fn overcharges(charges: &[u32; 64], set: u64, n: u16) -> bool
+    ensures { λ r. ⌜ r ≡ someBelow (overchargesIn (now (charges .entry)) set n) maxClients ⌝ }
 {
-    let mut c: usize = 0;
-    while c < clients {
-        if overcharged(charges, set, n, c) {
+    let mut left = set;
+    while left != 0 {
+        if overcharged(charges[sets::first(left)], n) {
             return true;
         }
-        c += 1;
+        left = sets::rest(left);
     }
     false
 }
 
-// The charge of c grows by n, if c is in the set.
-fn charge_at(charges: &mut [u32; 64], set: u64, n: u16, c: usize)
-    requires { ⌜ (c < maxClients) × (overchargesIn (now charges) set n c ≡ false) ⌝ }
-    ensures { λ r. ⌜ now (charges .exit) ≡ grownAt (now (charges .entry)) set n c ⌝ }
-{
-    if sets::member(set, c) {
-        charges[c] = charges[c] + (n as u32);
-    }
-}
-
 // The charge of each client in the set grows by n.
-pub fn charge(charges: &mut [u32; 64], set: u64, n: u16, clients: usize)
-    requires { ⌜ (clients ≤ maxClients) × (someBelow (overchargesIn (now charges) set n) clients ≡ false) ⌝ }
-    ensures { λ r. ⌜ now (charges .exit) ≡ grown (now (charges .entry)) set n clients ⌝ }
+pub fn charge(charges: &mut [u32; 64], set: u64, n: u16)
+    requires { ⌜ someBelow (overchargesIn (now charges) set n) maxClients ≡ false ⌝ }
+    ensures { λ r. ⌜ now (charges .exit) ≡ grown (now (charges .entry)) set n ⌝ }
 {
-    let mut c: usize = 0;
-    while c < clients {
-        charge_at(charges, set, n, c);
-        c += 1;
+    let mut left = set;
+    while left != 0 {
+        let c = sets::first(left);
+        charges[c] = charges[c] + (n as u32);
+        left = sets::rest(left);
     }
 }
 

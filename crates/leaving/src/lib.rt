@@ -16,7 +16,7 @@ ghost use Rattle.places.specs.Places.{takeOutOf};
 ghost use Rattle.gate.specs.declared.Server.the-variants.{Idle};
 ghost use Rattle.parts.specs.Parts.{putGlobal, putServer};
 ghost use Rattle.gate.specs.Shown.{serverOf};
-ghost use Rattle.parts.specs.Shows.{Homes, Lent, ServerFits, Leaves};
+ghost use Rattle.parts.specs.Shows.{Homes, Refills, ServerFits, Leaves};
 ghost use Rattle.leaving.specs.Finds.{ends, Turn, Yields};
 
 // LEAVING
@@ -27,13 +27,12 @@ fn gone<'a>(
     homes: &'a [u8; 64],
     sizes: &'a [u8; 8],
     priorities: &'a [u16; 64],
-    clients: usize,
     c: Client,
 ) -> Queues
-    requires { ⌜ (c .0 < maxClients) × Homes (now homes) × (clients ≤ maxClients) ⌝ }
+    requires { ⌜ (c .0 < maxClients) × Homes (now homes) ⌝ }
     ensures { λ r.
         ⌜ Leaves (λ v s. (now (homes .entry) ≡ v .homes)
-        × Lent v (now (sizes .entry)) (now (priorities .entry)) clients)
+        × Refills v (s .room) (now (sizes .entry)) (now (priorities .entry)))
         (λ u s. rules.gone u (outranks u s) (c .0) s) q r ⌝ }
 {
     let k = rows::home(homes, c);
@@ -42,7 +41,7 @@ fn gone<'a>(
     let rest = rows::shorter(line, rows::byte(c));
     let mut n = q;
     n.lines[i] = rest;
-    moves::refilled(n, sizes, priorities, clients, k)
+    moves::refilled(n, sizes, priorities, k)
 }
 
 // REPLY
@@ -61,20 +60,16 @@ fn front_ended<'a>(
     homes: &'a [u8; 64],
     sizes: &'a [u8; 8],
     priorities: &'a [u16; 64],
-    clients: usize,
     c: Client,
 ) -> Queues
-    requires { ⌜ (c .0 < maxClients) × Homes (now homes) × (clients ≤ maxClients) ⌝ }
+    requires { ⌜ (c .0 < maxClients) × Homes (now homes) ⌝ }
     ensures { λ r.
-        ⌜ Leaves (λ v s. (now (homes .entry) ≡ v .homes) × Lent v (now (sizes .entry)) (now (priorities .entry)) clients
+        ⌜ Leaves (λ v s. (now (homes .entry) ≡ v .homes)
+        × Refills v (s .room) (now (sizes .entry)) (now (priorities .entry))
         × (length (s .global) < maxClusters)) (λ u s. rules.ended u (outranks u s) (front (c .0)) s) q r ⌝ }
 {
     let k = rows::home(homes, c);
-    moves::queued(
-        gone(freed(q), homes, sizes, priorities, clients, c),
-        homes,
-        k,
-    )
+    moves::queued(gone(freed(q), homes, sizes, priorities, c), homes, k)
 }
 
 // The request of a spent client ends: its cluster stops being blocked, and the front there joins the global queue.
@@ -95,18 +90,18 @@ fn ended<'a>(
     homes: &'a [u8; 64],
     sizes: &'a [u8; 8],
     priorities: &'a [u16; 64],
-    clients: usize,
 ) -> Queues
-    requires { ⌜ ServerFits (serverOf (q .service .server)) × Homes (now homes) × (clients ≤ maxClients) ⌝ }
+    requires { ⌜ ServerFits (serverOf (q .service .server)) × Homes (now homes) ⌝ }
     ensures { λ r.
-        ⌜ Leaves (λ v s. (now (homes .entry) ≡ v .homes) × Lent v (now (sizes .entry)) (now (priorities .entry)) clients
+        ⌜ Leaves (λ v s. (now (homes .entry) ≡ v .homes)
+        × Refills v (s .room) (now (sizes .entry)) (now (priorities .entry))
         × Yields (s .server) (s .global)) (λ u s. ends u s) q r ⌝ }
 {
     let y = q.service;
     let server = y.server;
     let c = serving::served(server);
     if serving::as_front(server) {
-        return front_ended(q, homes, sizes, priorities, clients, c);
+        return front_ended(q, homes, sizes, priorities, c);
     }
     if serving::as_spent(server) {
         return spent_ended(q, homes, c);
@@ -120,14 +115,14 @@ pub fn replied<'a>(
     homes: &'a [u8; 64],
     sizes: &'a [u8; 8],
     priorities: &'a [u16; 64],
-    clients: usize,
 ) -> Queues
-    requires { ⌜ ServerFits (serverOf (q .service .server)) × Homes (now homes) × (clients ≤ maxClients) ⌝ }
+    requires { ⌜ ServerFits (serverOf (q .service .server)) × Homes (now homes) ⌝ }
     ensures { λ r.
-        ⌜ Leaves (λ v s. (now (homes .entry) ≡ v .homes) × Lent v (now (sizes .entry)) (now (priorities .entry)) clients
+        ⌜ Leaves (λ v s. (now (homes .entry) ≡ v .homes)
+        × Refills v (s .room) (now (sizes .entry)) (now (priorities .entry))
         × Yields (s .server) (s .global)) (λ u s. rules.replied u (outranks u s) s) q r ⌝ }
 {
-    let next = ended(q, homes, sizes, priorities, clients);
+    let next = ended(q, homes, sizes, priorities);
     moves::picked(next)
 }
 
@@ -151,21 +146,17 @@ fn front_aborted<'a>(
     homes: &'a [u8; 64],
     sizes: &'a [u8; 8],
     priorities: &'a [u16; 64],
-    clients: usize,
     c: Client,
 ) -> Queues
-    requires { ⌜ (c .0 < maxClients) × Homes (now homes) × (clients ≤ maxClients) ⌝ }
+    requires { ⌜ (c .0 < maxClients) × Homes (now homes) ⌝ }
     ensures { λ r.
-        ⌜ Leaves (λ v s. (now (homes .entry) ≡ v .homes) × Lent v (now (sizes .entry)) (now (priorities .entry)) clients
+        ⌜ Leaves (λ v s. (now (homes .entry) ≡ v .homes)
+        × Refills v (s .room) (now (sizes .entry)) (now (priorities .entry))
         × (length (remove (c .0) (s .global)) < maxClusters))
         (λ u s. queue u (u .cluster (c .0)) (rules.gone u (outranks u s) (c .0) (rules.unqueue (c .0) s))) q r ⌝ }
 {
     let k = rows::home(homes, c);
-    moves::queued(
-        gone(unqueued(q, c), homes, sizes, priorities, clients, c),
-        homes,
-        k,
-    )
+    moves::queued(gone(unqueued(q, c), homes, sizes, priorities, c), homes, k)
 }
 
 // Abort c. In the waiting room: leaves. Front in service: leaves the line, and stays in service as spent. Front and
@@ -175,12 +166,12 @@ pub fn aborted<'a>(
     homes: &'a [u8; 64],
     sizes: &'a [u8; 8],
     priorities: &'a [u16; 64],
-    clients: usize,
     c: Client,
 ) -> Queues
-    requires { ⌜ (c .0 < maxClients) × Homes (now homes) × (clients ≤ maxClients) ⌝ }
+    requires { ⌜ (c .0 < maxClients) × Homes (now homes) ⌝ }
     ensures { λ r.
-        ⌜ Leaves (λ v s. (now (homes .entry) ≡ v .homes) × Lent v (now (sizes .entry)) (now (priorities .entry)) clients
+        ⌜ Leaves (λ v s. (now (homes .entry) ≡ v .homes)
+        × Refills v (s .room) (now (sizes .entry)) (now (priorities .entry))
         × Turn v s (c .0)) (λ u s. rules.aborted u (outranks u s) (c .0) s) q r ⌝ }
 {
     let k = rows::home(homes, c);
@@ -197,11 +188,11 @@ pub fn aborted<'a>(
     let server = y.server;
     if serving::is_front(server, at) {
         let n = moves::served(q, Server::Spent(c), y.units);
-        return gone(n, homes, sizes, priorities, clients, c);
+        return gone(n, homes, sizes, priorities, c);
     }
     let line = q.lines[i];
     if rows::front(line) == rows::byte(c) {
-        return front_aborted(q, homes, sizes, priorities, clients, c);
+        return front_aborted(q, homes, sizes, priorities, c);
     }
-    gone(q, homes, sizes, priorities, clients, c)
+    gone(q, homes, sizes, priorities, c)
 }

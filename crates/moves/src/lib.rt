@@ -2,7 +2,6 @@
 // Each promises to leave the shown form of what the rules say, of whatever state the queues show.
 
 use gate::Cluster;
-use gate::Gate;
 use gate::Server;
 use parts::Queues;
 use parts::Service;
@@ -13,34 +12,28 @@ ghost use Rattle.rules.specs.Limits.{maxClusters, maxClients};
 ghost use Rattle.rules.specs.Rank.{outranks};
 ghost use Rattle.rules.specs.Queues as rules;
 ghost use Rattle.parts.specs.Parts.{putServer};
-ghost use Rattle.parts.specs.Shows.{Lent, Leaves};
+ghost use Rattle.parts.specs.Shows.{Refills, Leaves};
 
 // REFILL
 
 // Refill of a cluster: if its line has room and its waiting room isn't empty, the highest in rank moves to the line's
 // end.
-pub fn refilled<'a>(
-    q: Queues,
-    sizes: &'a [u8; 8],
-    priorities: &'a [u16; 64],
-    clients: usize,
-    k: Cluster,
-) -> Queues
-    requires { ⌜ (k .0 < maxClusters) × (clients ≤ maxClients) ⌝ }
+pub fn refilled<'a>(q: Queues, sizes: &'a [u8; 8], priorities: &'a [u16; 64], k: Cluster) -> Queues
+    requires { ⌜ k .0 < maxClusters ⌝ }
     ensures { λ r.
-        ⌜ Leaves (λ v s. Lent v (now (sizes .entry)) (now (priorities .entry)) clients)
+        ⌜ Leaves (λ v s. Refills v (s .room) (now (sizes .entry)) (now (priorities .entry)))
         (λ u s. rules.refill u (outranks u s) (k .0) s) q r ⌝ }
 {
     let i = k.0;
     let line = q.lines[i];
     let room = q.rooms[i];
+    if room == 0 {
+        return q;
+    }
     if rows::size(sizes, k) <= rows::used(line) {
         return q;
     }
-    let c = ranks::highest_in(priorities, room, clients);
-    if c == Gate::MAX_CLIENTS {
-        return q;
-    }
+    let c = ranks::highest_in(priorities, room);
     let mut n = q;
     let more = rows::longer(line, rows::narrow(c));
     n.lines[i] = more;

@@ -2,7 +2,7 @@
 -- Assumes nothing.
 use Prim.Native.Nat.{ℕ, _≤_, _<_}
 use mathlib.Core.Path.{_≡_}
-use mathlib.Core.Bool.{true, false}
+use mathlib.Core.Bool.{Bool, true, false}
 use mathlib.Core.List.{List, []}
 use lib.ListN.{length, getD}
 use Rattle.rules.specs.Limits.{maxClusters, maxSize, maxClients}
@@ -32,11 +32,11 @@ pub record Fine (v : Setup) : Type 0 where
   pub sizes : (k : ℕ) → setupOf v .size k ≤ maxSize
   pub homes : (c : ℕ) → setupOf v .cluster c < maxClusters
 
--- what a refill reads of the table is v's
-pub record Lent (v : Setup) (ms ps : List ℕ) (n : ℕ) : Type 0 where
+-- what a refill reads of the table is v's, and whoever is in a waiting room is a client
+pub record Refills (v : Setup) (room : ℕ → Bool) (ms ps : List ℕ) : Type 0 where
   pub sizes : ms ≡ v .sizes
   pub priorities : ps ≡ v .priorities
-  pub clients : n ≡ v .clients
+  pub known : (c : ℕ) → room c ≡ true → c < v .clients
 
 -- THE QUEUES
 

@@ -1,2 +1,6 @@
--- What the search for the highest in rank stands on.
+-- What the searches by rank stand on.
 pub mod Ranks
+pub mod Tops
+pub mod Left
+pub mod Best
+pub mod Keeping

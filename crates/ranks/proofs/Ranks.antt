@@ -1,20 +1,25 @@
--- The highest in rank, found client by client.
+-- Rank by priorities is a strict total order, which ever way round; and the one that leads is the highest.
 -- Assumes nothing.
-use Prim.Native.Nat.{_+_, _<_, _≤_, suc, zero, ℕ}
-use mathlib.Core.Bool.{Bool, cond, true}
+use Prim.Native.Nat.{ℕ, zero, suc, _≤_, _<_}
+use mathlib.Core.Bool.{Bool, true, false}
+use mathlib.Core.List.{List}
+use mathlib.Core.Logic.{by-cases}
 use mathlib.Core.Option.{Option, none, some}
-use mathlib.Core.Path.{_≡_, refl}
-use native.Mathlib.Numerals.{add-one}
+use mathlib.Core.Path.{_≡_, ap, refl, subst, sym}
+use native.Mathlib.Decide.{ℕ-discrete}
 use native.Mathlib.Omega.{arith}
-use borrow.Author.Tests.{ne-eqb}
-use Rattle.rules.specs.Limits.{maxClients}
+use lib.ListN.{getD}
 use Rattle.rules.specs.Lists.{higher, highest}
 use Rattle.rules.specs.Rank.{Rank, outranks}
-use Rattle.rules.specs.State.{State}
-use Rattle.rules.proofs.Tests.{by-test}
+use Rattle.rules.specs.State.{State, fresh}
+use Rattle.rules.proofs.Highest.{Leader, Leads, StrictTotal, highest-leads}
+use Rattle.rules.proofs.Ranking.{by-priority}
+use Rattle.rules.proofs.Tests.{by-test, clash}
 use Rattle.gate.specs.Shown.{setupOf}
 use Rattle.gate.specs.declared.Setup.{Setup}
-use Rattle.ranks.specs.Ranks.{betterOf, orNobody, rankBy}
+use Rattle.ranks.specs.Ranks.{rankBy, turned}
+
+-- THE ORDER
 
 -- the rank that an event reads off a state is the one of the setup's priorities
 pub rank-is : (v : Setup) (s : State) → outranks (setupOf v) s ≡ rankBy (v .priorities)
@@ -26,44 +31,65 @@ pub same-rank : (v : Setup) (s t : State) → outranks (setupOf v) s ≡ outrank
 unfolding outranks
 same-rank v s t = refl
 
-module _ (rank : Rank) (p : ℕ → Bool) where
-  -- the one found is below n and passes the test
-  abbrev pub Found : ℕ → Option ℕ → Type 0
-  Found n none = Unit {0}
-  Found n (some d) = (d < n) × (p d ≡ true)
+pub ranked : (ps : List ℕ) → StrictTotal (rankBy ps)
+unfolding rankBy outranks
+ranked ps =
+    by-priority (record {
+      clusters = 0;
+      clients = 0;
+      cap = 0;
+      size = λ k. 0;
+      kind = λ c. 0;
+      cluster = λ c. 0;
+      priority = λ c. getD ps c 0;
+    }) .order fresh
 
-  pub found : (n : ℕ) → Found n (highest rank p n)
-  found zero = tt
-  found (suc n) =
-      by-test (p n)
-      (λ e. rw e (joins e (highest rank p n) (found n)))
-      (λ e. rw e (wider (highest rank p n) (found n)))
+pub turned-order : {rank : Rank} → StrictTotal rank → StrictTotal (turned rank)
+turned-order order = record {
+  irreflexive = order .irreflexive;
+  transitive = λ a b c p q. order .transitive c b a q p;
+  total = λ a b d e. order .total b a (λ q. d (sym q)) e;
+}
+
+-- THE HIGHEST
+
+module _ {rank : Rank} (order : StrictTotal rank) {p : ℕ → Bool} {n : ℕ} where
+  -- who leads is the highest, and no other is
+  pub leads-highest : {d : ℕ} → Leads rank order p n d → some d ≡ highest rank p n
+  leads-highest {d} h = go (highest rank p n) (highest-leads rank order p n)
     where
-      joins : p n ≡ true → (o : Option ℕ) → Found n o → Found (suc n) (some (higher rank n o))
-      joins e none h = (omega arith, e)
-      joins e (some d) h =
-          by-test (rank n d) (λ f. rw f (omega arith, e)) (λ f. rw f (omega (arith, h .0), h .1))
+      go : (o : Option ℕ) → Leader rank order p n o → some d ≡ o
+      go none f = absurd (f d (h .low) (h .passes))
+      go (some e) f =
+          by-cases (ℕ-discrete d e)
+          (λ q. ap some q)
+          (λ q. clash
+          (order .transitive d e d (h .leads e (f .low) (f .passes) (λ z. q (sym z)))
+          (f .leads d (h .low) (h .passes) q))
+          (order .irreflexive d))
 
-      wider : (o : Option ℕ) → Found n o → Found (suc n) o
-      wider none h = tt
-      wider (some d) h = (omega (arith, h .0), h .1)
+-- and the highest leads
+pub found-leads : {rank : Rank} (order : StrictTotal rank) (p : ℕ → Bool) (n d : ℕ) → some d ≡ highest rank p n
+    → Leads rank order p n d
+found-leads {rank} order p n d e = subst (Leader rank order p n) (sym e) (highest-leads rank order p n)
 
-  -- one client more
-  pub better-next : (n : ℕ) → n ≤ maxClients
-      → betterOf rank p n (orNobody (highest rank p n)) ≡ orNobody (highest rank p (n + 1))
-  better-next n h = rw (add-one n) (go (highest rank p n) (found n))
-    where
-      go : (o : Option ℕ) → Found n o
-          → betterOf rank p n (orNobody o) ≡ orNobody (cond (p n) (some (higher rank n o)) o)
-      go none f = by-test (p n) (λ e. rw e) (λ e. rw e)
-      go (some d) f =
-          by-test (p n)
-          (λ e. rw (e, ne-eqb d maxClients (λ q. omega (arith, f .0)))
-          (by-test (rank n d) (λ q. rw q) (λ q. rw q)))
-          (λ e. rw e)
+-- nobody passes
+pub highest-none : (rank : Rank) (p : ℕ → Bool) (n : ℕ) → ((i : ℕ) → i < n → p i ≡ false) → highest rank p n ≡ none
+highest-none rank p zero h = refl
+highest-none rank p (suc n) h = rw (h n (omega arith)) (highest-none rank p n (λ i l. h i (omega arith)))
 
--- tests that agree below n find the same
-pub highest-same : (rank : Rank) (p q : ℕ → Bool) (n : ℕ) → ((i : ℕ) → i < n → p i ≡ q i)
-    → highest rank p n ≡ highest rank q n
-highest-same rank p q zero h = refl
-highest-same rank p q (suc n) h = rw (h n (omega arith), highest-same rank p q n (λ i l. h i (omega arith)))
+module _ (rank : Rank) (p q : ℕ → Bool) where
+  -- tests that agree below n find the same
+  pub highest-same : (n : ℕ) → ((i : ℕ) → i < n → p i ≡ q i) → highest rank p n ≡ highest rank q n
+  highest-same zero h = refl
+  highest-same (suc n) h = rw (h n (omega arith), highest-same n (λ i l. h i (omega arith)))
+
+  -- and so does a search further on, where nobody is
+  pub highest-cut : (n w : ℕ) → n ≤ w → ((i : ℕ) → i < n → p i ≡ q i) → ((i : ℕ) → i < w → n ≤ i → q i ≡ false)
+      → highest rank p n ≡ highest rank q w
+  highest-cut n zero l h past = let e : n ≡ 0 = omega arith in rw e
+  highest-cut n (suc w) l h past =
+      by-cases (ℕ-discrete n (suc w))
+      (λ e. rw e (highest-same (suc w) (λ i b. h i (omega arith))))
+      (λ e. rw (past w (omega arith) (omega arith))
+      (highest-cut n w (omega arith) h (λ i b m. past i (omega arith) m)))

@@ -1,2 +1,3 @@
 -- What rank is read as. Nothing is proved here.
 pub mod Ranks
+pub mod Keeps

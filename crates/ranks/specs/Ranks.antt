@@ -1,23 +1,31 @@
--- Rank over the bytes of a setup, and the highest found so far, where 64 stands for nobody.
+-- Rank over the bytes of a setup, the lowest in rank, and the best of a set.
 -- Assumes nothing.
-use Prim.Native.Nat.{ℕ}
-use mathlib.Core.Bool.{Bool, _&&_, _||_, cond}
+use Prim.Native.Nat.{ℕ, zero, suc}
+use mathlib.Core.Bool.{Bool, _&&_}
 use mathlib.Core.List.{List}
-use mathlib.Core.Option.{Option, some, none}
-use lib.Dec.{eqb}
+use lib.Dec.{ltb}
 use lib.ListN.{getD}
 use Rattle.rules.specs.Limits.{maxClients}
 use Rattle.rules.specs.Rank.{Rank, before}
+use Rattle.sets.specs.Sets.{member, setOf, countOf, withoutOf, firstOf}
 
 -- the rank by a list of priorities
 unfoldable pub rankBy : List ℕ → Rank
 rankBy ps a b = before (getD ps a 0) a (getD ps b 0) b
 
--- the one found; 64 if none was
-abbrev pub orNobody : Option ℕ → ℕ
-orNobody none = maxClients
-orNobody (some d) = d
+-- the rank turned round: its highest is the lowest
+abbrev pub turned : Rank → Rank
+turned rank a b = rank b a
 
--- c, if it passes the test and outranks b, or b is nobody; else b
-abbrev pub betterOf : Rank → (ℕ → Bool) → ℕ → ℕ → ℕ
-betterOf rank p c b = cond (p c && (eqb b maxClients || rank c b)) c b
+-- those in the set that outrank c
+abbrev pub outrankingIn : List ℕ → ℕ → ℕ → ℕ
+outrankingIn ps s c = setOf maxClients (λ (d : ℕ). member s d && rankBy ps d c)
+
+-- c is in the set, and fewer than m of those there outrank it
+unfoldable pub bestIn : List ℕ → ℕ → ℕ → ℕ → Bool
+bestIn ps s m c = member s c && ltb (countOf (outrankingIn ps s c)) m
+
+-- the set without its m lowest clients by number
+unfoldable pub pastOf : ℕ → ℕ → ℕ
+pastOf s zero = s
+pastOf s (suc m) = withoutOf (pastOf s m) (firstOf (pastOf s m))

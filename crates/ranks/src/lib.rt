@@ -1,13 +1,18 @@
-// Rank, from one reading of a client's key, and the highest in rank of a set.
+// Rank, from one reading of a client's key: the highest in rank of a set, and the best m of it. A set is walked by its
+// members.
 
-use gate::Gate;
 ghost use mathlib.Core.Path.{_≡_};
-ghost use Prim.Native.Nat.{_≤_, _<_};
+ghost use mathlib.Core.Bool.{Bool, true, false, cond};
+ghost use mathlib.Core.Option.{some};
+ghost use Prim.Native.Nat.{ℕ, _≤_, _<_};
 ghost use lib.ListN.{getD};
 ghost use Rattle.rules.specs.Limits.{maxClients};
-ghost use Rattle.rules.specs.Lists.{highest};
-ghost use Rattle.sets.specs.Sets.{member};
-ghost use Rattle.ranks.specs.Ranks.{rankBy, orNobody, betterOf};
+ghost use Rattle.rules.specs.Lists.{highest, upd};
+ghost use Rattle.sets.specs.Sets.{member, setOf, countOf};
+ghost use Rattle.ranks.specs.Ranks.{rankBy, turned, bestIn, pastOf};
+ghost use Rattle.ranks.specs.Keeps.{Keeps};
+
+// WHO OUTRANKS WHOM
 
 // What a client's rank goes by: the smaller, the higher.
 fn key(priorities: &[u16; 64], c: usize) -> u16
@@ -18,7 +23,7 @@ fn key(priorities: &[u16; 64], c: usize) -> u16
 }
 
 // Whether client a outranks client b: by their keys, then by their numbers.
-pub fn outranks(priorities: &[u16; 64], a: usize, b: usize) -> bool
+fn outranks(priorities: &[u16; 64], a: usize, b: usize) -> bool
     requires { ⌜ (a < maxClients) × (b < maxClients) ⌝ }
     ensures { λ r. ⌜ r ≡ rankBy (now (priorities .entry)) a b ⌝ }
 {
@@ -33,33 +38,118 @@ pub fn outranks(priorities: &[u16; 64], a: usize, b: usize) -> bool
     false
 }
 
-// The higher in rank of c, if it is in the room, and of b, the highest found before; 64 is nobody.
-fn better(priorities: &[u16; 64], room: u64, c: usize, b: usize) -> usize
-    requires { ⌜ (c < maxClients) × (b ≤ maxClients) ⌝ }
-    ensures { λ r. ⌜ (r ≡ betterOf (rankBy (now (priorities .entry))) (member room) c b) × (r ≤ maxClients) ⌝ }
+// THE HIGHEST AND THE LOWEST
+
+// The higher in rank of two.
+fn higher(priorities: &[u16; 64], a: usize, b: usize) -> usize
+    requires { ⌜ (a < maxClients) × (b < maxClients) ⌝ }
+    ensures { λ r. ⌜ r ≡ cond (rankBy (now (priorities .entry)) a b) a b ⌝ }
 {
-    if !sets::member(room, c) {
-        return b;
-    }
-    if b == Gate::MAX_CLIENTS {
-        return c;
-    }
-    if outranks(priorities, c, b) {
-        return c;
+    if outranks(priorities, a, b) {
+        return a;
     }
     b
 }
 
-// The highest in rank of those below n in the room, or 64.
-pub fn highest_in(priorities: &[u16; 64], room: u64, n: usize) -> usize
-    requires { ⌜ n ≤ maxClients ⌝ }
-    ensures { λ r. ⌜ (r ≡ orNobody (highest (rankBy (now (priorities .entry))) (member room) n)) × (r ≤ maxClients) ⌝ }
+// The highest in rank of a set that has a member.
+pub fn highest_in(priorities: &[u16; 64], s: u64) -> usize
+    requires { ⌜ 0 < s ⌝ }
+    ensures { λ r. ⌜ (some r ≡ highest (rankBy (now (priorities .entry))) (member s) maxClients) × (r < maxClients) ⌝ }
 {
-    let mut b = Gate::MAX_CLIENTS;
-    let mut c: usize = 0;
-    while c < n {
-        b = better(priorities, room, c, b);
-        c += 1;
+    let mut b = sets::first(s);
+    let mut left = sets::rest(s);
+    while left != 0 {
+        b = higher(priorities, sets::first(left), b);
+        left = sets::rest(left);
     }
     b
+}
+
+// The lower in rank of two.
+fn lower(priorities: &[u16; 64], a: usize, b: usize) -> usize
+    requires { ⌜ (a < maxClients) × (b < maxClients) ⌝ }
+    ensures { λ r. ⌜ r ≡ cond (rankBy (now (priorities .entry)) b a) a b ⌝ }
+{
+    if outranks(priorities, b, a) {
+        return a;
+    }
+    b
+}
+
+// The lowest in rank of a set that has a member.
+fn lowest_in(priorities: &[u16; 64], s: u64) -> usize
+    requires { ⌜ 0 < s ⌝ }
+    ensures { λ r.
+        ⌜ (some r ≡ highest (turned (rankBy (now (priorities .entry)))) (member s) maxClients) × (r < maxClients) ⌝ }
+{
+    let mut b = sets::first(s);
+    let mut left = sets::rest(s);
+    while left != 0 {
+        b = lower(priorities, sets::first(left), b);
+        left = sets::rest(left);
+    }
+    b
+}
+
+// THE BEST
+
+// The best of those seen so far, and the lowest in rank of them.
+struct Kept {
+    best: u64,
+    last: usize,
+}
+
+// The set without its m lowest by number.
+fn past(s: u64, m: usize) -> u64
+    requires { ⌜ m ≤ countOf s ⌝ }
+    ensures { λ r. ⌜ r ≡ pastOf s m ⌝ }
+{
+    let mut left = s;
+    let mut i: usize = 0;
+    while i < m {
+        left = sets::rest(left);
+        i += 1;
+    }
+    left
+}
+
+// With c seen too: if it outranks the lowest, it takes its place.
+fn seen(priorities: &[u16; 64], k: Kept, c: usize) -> Kept
+    requires { ⌜ (c < maxClients) × (k .last < maxClients) ⌝ }
+    ensures { λ r.
+        ⌜ ((m : ℕ) (p : ℕ → Bool) → Keeps (rankBy (now (priorities .entry))) m p k → p c ≡ false
+        → Keeps (rankBy (now (priorities .entry))) m (upd p c true) r) × (r .last < maxClients) ⌝ }
+{
+    let l = k.last;
+    if !outranks(priorities, c, l) {
+        return k;
+    }
+    let t = sets::with(sets::without(k.best, l), c);
+    Kept {
+        best: t,
+        last: lowest_in(priorities, t),
+    }
+}
+
+// Those in a set whom fewer than m of it outrank. Where it has no more than m, no two are compared.
+pub fn best_in(priorities: &[u16; 64], s: u64, m: usize) -> u64
+    ensures { λ r. ⌜ r ≡ setOf maxClients (bestIn (now (priorities .entry)) s m) ⌝ }
+{
+    if sets::count(s) <= m {
+        return s;
+    }
+    if m == 0 {
+        return 0;
+    }
+    let mut left = past(s, m);
+    let t = sets::less(s, left);
+    let mut k = Kept {
+        best: t,
+        last: lowest_in(priorities, t),
+    };
+    while left != 0 {
+        k = seen(priorities, k, sets::first(left));
+        left = sets::rest(left);
+    }
+    k.best
 }

@@ -6,9 +6,8 @@ use parts::Queues;
 ghost use mathlib.Core.Path.{_≡_};
 ghost use Prim.Native.Nat.{_+_, _≤_};
 ghost use lib.Dec.{ltb};
-ghost use Rattle.rules.specs.Limits.{maxClusters, maxClients, maxCap};
+ghost use Rattle.rules.specs.Limits.{maxClusters, maxCap};
 ghost use Rattle.rules.specs.Events as rules;
-ghost use Rattle.parts.specs.Shows.{Lent};
 ghost use Rattle.answers.specs.Answers.{Answering};
 ghost use Rattle.running.specs.Runs.{Charging};
 
@@ -28,24 +27,23 @@ fn charged<'a>(
     sizes: &'a [u8; 8],
     priorities: &'a [u16; 64],
     clusters: usize,
-    clients: usize,
     charges: &mut [u32; 64],
     n: u16,
 ) -> Outcome
-    requires { ⌜ (clusters ≤ maxClusters) × (clients ≤ maxClients) × (q .service .units + n ≤ maxCap) ⌝ }
+    requires { ⌜ (clusters ≤ maxClusters) × (q .service .units + n ≤ maxCap) ⌝ }
     ensures { λ r.
-        ⌜ Charging (λ v. Lent v (now (sizes .entry)) (now (priorities .entry)) clients × (clusters ≡ v .clusters))
-        n q (now (charges .entry)) r (now (charges .exit)) ⌝ }
+        ⌜ Charging (λ v. (now (sizes .entry) ≡ v .sizes) × (now (priorities .entry) ≡ v .priorities)
+        × (clusters ≡ v .clusters)) n q (now (charges .entry)) r (now (charges .exit)) ⌝ }
 {
     let lines = q.lines;
-    let set = charging::charged(lines, &q.rooms, sizes, priorities, clusters, clients);
-    if charging::overcharges(charges, set, n, clients) {
+    let set = charging::charged(lines, &q.rooms, sizes, priorities, clusters);
+    if charging::overcharges(charges, set, n) {
         return Outcome {
             answer: Answer::Unsound,
             queues: q,
         };
     }
-    charging::charge(charges, set, n, clients);
+    charging::charge(charges, set, n);
     let y = q.service;
     let server = y.server;
     let r = moves::served(q, server, y.units + (n as u32));
@@ -61,15 +59,14 @@ pub fn run<'a>(
     sizes: &'a [u8; 8],
     priorities: &'a [u16; 64],
     clusters: usize,
-    clients: usize,
     cap: u16,
     charges: &mut [u32; 64],
     n: u16,
 ) -> Outcome
-    requires { ⌜ (clusters ≤ maxClusters) × (clients ≤ maxClients) ⌝ }
+    requires { ⌜ clusters ≤ maxClusters ⌝ }
     ensures { λ r.
-        ⌜ Answering (λ v. Lent v (now (sizes .entry)) (now (priorities .entry)) clients × (clusters ≡ v .clusters)
-        × (cap ≡ v .cap)) (rules.run n) q (now (charges .entry)) r (now (charges .exit)) ⌝ }
+        ⌜ Answering (λ v. (now (sizes .entry) ≡ v .sizes) × (now (priorities .entry) ≡ v .priorities)
+        × (clusters ≡ v .clusters) × (cap ≡ v .cap)) (rules.run n) q (now (charges .entry)) r (now (charges .exit)) ⌝ }
 {
     if n == 0 {
         return Outcome {
@@ -91,5 +88,5 @@ pub fn run<'a>(
             queues: q,
         };
     }
-    charged(q, sizes, priorities, clusters, clients, charges, n)
+    charged(q, sizes, priorities, clusters, charges, n)
 }

@@ -2,6 +2,7 @@
 -- Assumes nothing.
 use Prim.Native.Nat.{ℕ, zero, suc, _+_, _/_, _%_, _^_}
 use mathlib.Core.Bool.{Bool, true, false, not, _&&_, _||_, cond}
+use lib.Count.{trailingZeros}
 use lib.Dec.{eqb}
 use Rattle.rules.specs.Limits.{maxClients}
 use Rattle.rules.specs.Lists.{upd, countBelow}
@@ -34,3 +35,7 @@ lessOf s t = setOf maxClients (λ (c : ℕ). member s c && not (member t c))
 -- how many clients are in the set s
 unfoldable pub countOf : ℕ → ℕ
 countOf s = countBelow (member s) maxClients
+
+-- the lowest client of the set s, if it has one: the bits below it are 0
+abbrev pub firstOf : ℕ → ℕ
+firstOf s = trailingZeros maxClients s

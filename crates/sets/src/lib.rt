@@ -1,8 +1,11 @@
 // Sets of clients as words: bit c of a u64 says whether client c is in the set.
 // A number of 64 or more is no client's: it is in no set, and joins and leaves none.
 
+ghost use mathlib.Core.Bool.{true};
 ghost use mathlib.Core.Path.{_≡_};
-ghost use Rattle.sets.specs.Sets.{member, withOf, withoutOf, unionOf, lessOf, countOf};
+ghost use Prim.Native.Nat.{_<_};
+ghost use Rattle.rules.specs.Limits.{maxClients};
+ghost use Rattle.sets.specs.Sets.{member, withOf, withoutOf, unionOf, lessOf, countOf, firstOf};
 
 // The bits of a word.
 const WIDTH: usize = 64;
@@ -52,4 +55,22 @@ pub fn count(s: u64) -> usize
     ensures { λ r. ⌜ r ≡ countOf s ⌝ }
 {
     u64::count_ones(s) as usize
+}
+
+// MEMBER BY MEMBER
+
+// The lowest member of a set that has one.
+pub fn first(s: u64) -> usize
+    requires { ⌜ 0 < s ⌝ }
+    ensures { λ r. ⌜ (r ≡ firstOf s) × (r < maxClients) × (member s r ≡ true) ⌝ }
+{
+    u64::trailing_zeros(s) as usize
+}
+
+// The set without it: the word below has that bit turned, and all bits under it.
+pub fn rest(s: u64) -> u64
+    requires { ⌜ 0 < s ⌝ }
+    ensures { λ r. ⌜ (r ≡ withoutOf s (firstOf s)) × (r < s) ⌝ }
+{
+    s & (s - 1)
 }

@@ -49,17 +49,8 @@ pub fn sound_step<'a>(
     let n = gate::wide(clients);
     match e {
         Event::Invoke(c) => calls::invoke(q, kinds, homes, sizes, n, charges, c),
-        Event::Run(t) => running::run(
-            q,
-            sizes,
-            priorities,
-            gate::wide(clusters),
-            n,
-            cap,
-            charges,
-            t,
-        ),
-        Event::Reply => calls::reply(q, homes, sizes, priorities, n),
+        Event::Run(t) => running::run(q, sizes, priorities, gate::wide(clusters), cap, charges, t),
+        Event::Reply => calls::reply(q, homes, sizes, priorities),
         Event::Abort(c) => calls::abort(q, kinds, homes, sizes, priorities, n, c),
     }
 }

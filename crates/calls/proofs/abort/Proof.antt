@@ -4,7 +4,7 @@ use mathlib.Core.Path.{_∙_, ap}
 use native.Mathlib.Omega.{arith}
 use borrow.Author.Needs.{needs}
 use borrow.Author.Tests.{not-false, not-true}
-use Rattle.leaving.proofs.Found.{turn}
+use Rattle.leaving.proofs.Found.{refills, turn}
 use Rattle.presence.proofs.Here.{waits-is}
 use Rattle.rules.specs.Events.{abort}
 use Rattle.rules.specs.State.{isSpent}
@@ -23,7 +23,7 @@ returns : tie.Need-returns
 returns c =
     let d = c .before .before .args .c .0 in
     λ cs v s e h.
-    refuses h (abort d) NoClient (abort-unknown v s d (e .2 .clients) (c .before .index .ensures) (c .if1 .taken))
+    refuses h (abort d) NoClient (abort-unknown v s d (e .4) (c .before .index .ensures) (c .if1 .taken))
     (λ z. omega arith)
 
 is-real-time-requires : tie.Need-is-real-time-requires
@@ -34,7 +34,7 @@ returns-2 c =
     let d = c .before .before .before .before .args .c .0 in
     λ cs v s e h.
     refuses h (abort d) BestEffort
-    (abort-effort v s d (e .2 .clients) (c .before .before .before .index .ensures) (c .before .before .if1 .left)
+    (abort-effort v s d (e .4) (c .before .before .before .index .ensures) (c .before .before .if1 .left)
     (rw (e .0) at (c .before .is-real-time .ensures)) (not-true _ (c .if2 .taken)))
     (λ z. omega arith)
 
@@ -69,7 +69,7 @@ returns-3 c =
     let d = a .before .before .args .c .0 in
     λ cs v s e h.
     refuses h (abort d) NotWaiting
-    (abort-absent v s d (e .2 .clients) (a .before .index .ensures) (a .if1 .left)
+    (abort-absent v s d (e .4) (a .before .index .ensures) (a .if1 .left)
     (rw (e .0) at (b .before .before .before .before .is-real-time .ensures))
     (not-false _ (b .before .before .before .if2 .left))
     (rw (c .before .before .before .before .index2 .ensures) at (c .before .before .before .is-spent .ensures)
@@ -85,7 +85,7 @@ returns-4 c =
     let d = a .before .before .before .args .c .0 in
     λ cs v s e h.
     refuses h (abort d) SpentAlready
-    (abort-spent v s d (e .2 .clients) (a .before .before .index .ensures) (a .before .if1 .left)
+    (abort-spent v s d (e .4) (a .before .before .index .ensures) (a .before .if1 .left)
     (rw (e .0) at (a .is-real-time .ensures)) (not-false _ (b .before .before .before .before .if2 .left))
     (rw (b .index2 .ensures) at (c .before .before .before .before .is-spent .ensures) ∙ ap (λ x. isSpent x d)
     (h .queues .service .server))
@@ -104,13 +104,13 @@ returns-5 c =
     let d = a .before .before .before .before .args .c .0 in
     λ cs v s e h.
     accepts (abort d)
-    (abort-fine v s d (e .2 .clients) (a .before .before .before .index .ensures) (a .before .before .if1 .left)
+    (abort-fine v s d (e .4) (a .before .before .before .index .ensures) (a .before .before .if1 .left)
     (rw (e .0) at (a .before .is-real-time .ensures)) (not-false _ (a .if2 .left))
     (rw (b .before .index2 .ensures) at (b .is-spent .ensures) ∙ ap (λ x. isSpent x d) (h .queues .service .server))
     (c .before .before .before .waits .ensures ∙ waits-is (h .queues)
     (rw (e .1) at (b .before .before .before .before .home .ensures)) _ _) (not-false _ (c .before .before .if3 .left))
     (c .before .if4 .left))
-    (c .aborted .ensures v s (fine h) (e .1, e .2, turn v s (h .sound) d) (h .queues)) (abort-charge h d)
+    (c .aborted .ensures v s (fine h) (e .1, refills v s (h .sound) (e .2) (e .3), turn v s (h .sound) d) (h .queues)) (abort-charge h d)
 
 pub abort-spec : {M : Type 1} → statement M
 abort-spec =

@@ -12,15 +12,15 @@ use Rattle.charging.proofs.charged.Statement.{statement}
 use Rattle.charging.proofs.charged.Tie as tie
 
 abbrev Inv-loop : tie.InvT-loop
-Inv-loop rooms sizes priorities clusters clients lines s₀ k₀ s k =
-    (k ≤ clusters) × (clusters ≤ 8) × (clients ≤ 64) × (length lines ≡ 8)
-    × (s ≡ chargedBelow blankLine lines rooms sizes priorities clients k)
+Inv-loop rooms sizes priorities clusters lines s₀ k₀ s k =
+    (k ≤ clusters) × (clusters ≤ 8) × (length lines ≡ 8)
+    × (s ≡ chargedBelow blankLine lines rooms sizes priorities k)
 
 abbrev μ-loop : tie.MeasureT-loop
-μ-loop rooms sizes priorities clusters clients lines s₀ k₀ s k = clusters - k
+μ-loop rooms sizes priorities clusters lines s₀ k₀ s k = clusters - k
 
 loop-holds : tie.Need-loop-holds Inv-loop μ-loop
-loop-holds c = (omega arith, c .pre .0, c .pre .1, search needs, refl)
+loop-holds c = (omega arith, c .pre, search needs, refl)
 
 mul-waiting-in : tie.Need-mul-waiting-in Inv-loop μ-loop
 mul-waiting-in c = omega arith
@@ -40,8 +40,8 @@ waiting-in-requires c κs = search needs
 size-requires : tie.Need-size-requires Inv-loop μ-loop
 size-requires c κs = omega arith
 
-charged-among-requires : tie.Need-charged-among-requires Inv-loop μ-loop
-charged-among-requires c κs = search needs
+best-in-requires : tie.Need-best-in-requires Inv-loop μ-loop
+best-in-requires c κs = search needs
 
 union-requires : tie.Need-union-requires Inv-loop μ-loop
 union-requires c κs = search needs
@@ -57,15 +57,15 @@ loop-again c =
     let z = c .before .before in
     let w = z .before in
     let l = w .before .before .before .before .loop in
-    let e = rw (w .waiting-in .ensures, z .size .ensures) at (c .before .charged-among .ensures) in
-    (omega arith, l .inv .1, l .inv .2, l .inv .3, rw (add-one (l .k), ← l .inv .4, ← e) (c .union .ensures))
+    let e = rw (w .waiting-in .ensures, z .size .ensures) at (c .before .best-in .ensures) in
+    (omega arith, l .inv .1, l .inv .2, rw (add-one (l .k), ← l .inv .3, ← e) (c .union .ensures))
 
 returns : tie.Need-returns Inv-loop μ-loop
 returns c =
     let l = c .before .loop in
     let e : l .k ≡ c .before .before .args .clusters = omega arith in
-    λ v s ms ps ks cs lines rooms sound.
-    l .inv .4 ∙ rw (e, ms, ps, ks, cs) (charged-all v sound lines rooms blankLine)
+    λ v s ms ps ks lines rooms sound.
+    l .inv .3 ∙ rw (e, ms, ps, ks) (charged-all v sound lines rooms blankLine)
 
 pub charged-spec : {M : Type 1} → statement M
 charged-spec =
@@ -80,7 +80,7 @@ charged-spec =
     element-copy-out-waiting-in
     waiting-in-requires
     size-requires
-    charged-among-requires
+    best-in-requires
     union-requires
     add-k
     loop-less

@@ -21,7 +21,6 @@ front-ended-requires c κs =
     let a = c .before .before .before .before in (
       rw (c .before .before .served .ensures) (served-fits (serverOf (a .args .q .service .server)) (a .pre .0)),
       a .pre .1,
-      a .pre .2,
     )
 
 returns : tie.Need-returns

@@ -1,8 +1,8 @@
--- `moves::refilled` meets its contract: the line is full, or nobody is in the room, or the highest in rank moves.
+-- `moves::refilled` meets its contract: nobody is in the room, or the line is full, or the highest in rank moves.
 -- Assumes nothing.
 use native.Mathlib.Omega.{arith}
 use borrow.Author.Needs.{needs}
-use Rattle.moves.proofs.Refill.{refill-full, refill-moves, refill-none}
+use Rattle.moves.proofs.Refill.{refill-empty, refill-full, refill-moves}
 use Rattle.moves.proofs.refilled.Statement.{statement}
 use Rattle.moves.proofs.refilled.Tie as tie
 
@@ -18,29 +18,26 @@ mul-room c = search needs
 element-copy-out-room : tie.Need-element-copy-out-room
 element-copy-out-room c = search needs
 
+returns : tie.Need-returns
+returns c =
+    let k = c .before .before .before .args .k .0 in
+    λ v s fine e h. refill-empty fine h k (omega arith) (c .if1 .taken)
+
 size-requires : tie.Need-size-requires
 size-requires c κs = search needs
 
 used-requires : tie.Need-used-requires
 used-requires c κs = search needs
 
-returns : tie.Need-returns
-returns c =
-    let k = c .before .before .before .before .before .args .k .0 in
-    λ v s fine e h.
-    refill-full fine h k (omega arith) _ (rw (e .sizes) at (c .before .before .size .ensures))
-    (c .before .used .ensures) (c .if1 .taken)
-
-highest-in-requires : tie.Need-highest-in-requires
-highest-in-requires c κs = search needs
-
 returns-2 : tie.Need-returns-2
 returns-2 c =
-    let k = c .before .before .before .before .before .before .before .args .k .0 in
+    let k = c .before .before .before .before .before .before .args .k .0 in
     λ v s fine e h.
-    refill-none fine h k (omega arith) _ (rw (e .sizes) at (c .before .before .before .before .size .ensures))
-    (c .before .before .before .used .ensures) (c .before .before .if1 .left) _
-    (rw (e .priorities, e .clients) at (c .before .highest-in .ensures .0)) (c .if2 .taken)
+    refill-full fine h k (omega arith) _ (rw (e .sizes) at (c .before .before .size .ensures))
+    (c .before .used .ensures) (c .if2 .taken)
+
+highest-in-requires : tie.Need-highest-in-requires
+highest-in-requires c κs = omega arith
 
 narrow-requires : tie.Need-narrow-requires
 narrow-requires c κs = search needs
@@ -65,15 +62,14 @@ element-write-n c = search needs
 
 returns-3 : tie.Need-returns-3
 returns-3 c =
-    let b = c .before .before .before .before .before in
-    let a = b .before .before .before .before .before in
-    let k = a .args .k .0 in
+    let h-in = c .before .before .before .highest-in in
+    let b = c .before .before .before .before in
+    let k = b .before .before .before .before .before .before .args .k .0 in
     λ v s fine e h.
     rw (c .without .ensures, c .before .longer .ensures, c .before .before .narrow .ensures)
     (refill-moves fine h k (omega arith) _ (rw (e .sizes) at (b .before .before .size .ensures))
-    (b .before .used .ensures) (b .if1 .left) _
-    (rw (e .priorities, e .clients) at (c .before .before .before .before .highest-in .ensures .0))
-    (c .before .before .before .if2 .left))
+    (b .before .used .ensures) (b .if2 .left) (e .known) _ (h-in .result) (h-in .ensures .1)
+    (rw (e .priorities) at (h-in .ensures .0)))
 
 pub refilled-spec : {M : Type 1} → statement M
 refilled-spec =
@@ -83,11 +79,11 @@ refilled-spec =
     element-copy-out-line
     mul-room
     element-copy-out-room
+    returns
     size-requires
     used-requires
-    returns
-    highest-in-requires
     returns-2
+    highest-in-requires
     narrow-requires
     longer-requires
     mul-more

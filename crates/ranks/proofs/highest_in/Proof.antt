@@ -1,54 +1,69 @@
--- `ranks::highest_in` meets its contract: the loop holds the highest of the clients passed.
+-- `ranks::highest_in` meets its contract: the loop holds the highest of those that are not left.
 -- Assumes nothing.
-use Prim.Native.Nat.{_-_, _≤_}
-use mathlib.Core.Path.{_∙_, _≡_, ap, refl}
 use native.Mathlib.Omega.{arith}
-use borrow.Author.Needs.{needs}
-use Rattle.rules.specs.Lists.{highest}
-use Rattle.sets.specs.Sets.{member}
-use Rattle.ranks.specs.Ranks.{betterOf, orNobody, rankBy}
-use Rattle.ranks.proofs.Ranks.{better-next}
+use Rattle.ranks.specs.Ranks.{rankBy}
+use Rattle.ranks.proofs.Ranks.{leads-highest, ranked}
+use Rattle.ranks.proofs.Tops.{Tops, tops-all, tops-first, tops-next}
 use Rattle.ranks.proofs.highest_in.Statement.{statement}
 use Rattle.ranks.proofs.highest_in.Tie as tie
 
 abbrev Inv-loop : tie.InvT-loop
-Inv-loop priorities room n b₀ c₀ b c =
-    (c ≤ n) × (n ≤ 64) × (b ≤ 64) × (b ≡ orNobody (highest (rankBy priorities) (member room) c))
+Inv-loop priorities s b₀ left₀ b left = Tops (rankBy priorities) s left b
 
 abbrev μ-loop : tie.MeasureT-loop
-μ-loop priorities room n b₀ c₀ b c = n - c
+μ-loop priorities s b₀ left₀ b left = left
+
+first-requires : tie.Need-first-requires Inv-loop μ-loop
+first-requires c κs = omega arith
+
+rest-requires : tie.Need-rest-requires Inv-loop μ-loop
+rest-requires c κs = omega arith
 
 loop-holds : tie.Need-loop-holds Inv-loop μ-loop
-loop-holds c = (omega arith, c .pre, omega arith, refl)
+loop-holds c =
+    let a = c .before .before .args in
+    let f = c .before .first .ensures in
+    rw (c .rest .ensures .0, ← f .0) (tops-first (rankBy (a .priorities .now)) (a .s) _ (f .1) (f .2))
 
-better-requires : tie.Need-better-requires Inv-loop μ-loop
-better-requires c κs = search needs
+first-requires-2 : tie.Need-first-requires-2 Inv-loop μ-loop
+first-requires-2 c κs = omega arith
 
-add-c : tie.Need-add-c Inv-loop μ-loop
-add-c c = omega arith
+higher-requires : tie.Need-higher-requires Inv-loop μ-loop
+higher-requires c κs = (c .first2 .ensures .1, c .before .before .loop .inv .low)
+
+rest-requires-2 : tie.Need-rest-requires-2 Inv-loop μ-loop
+rest-requires-2 c κs = omega arith
 
 loop-less : tie.Need-loop-less Inv-loop μ-loop
 loop-less c = omega arith
 
 loop-again : tie.Need-loop-again Inv-loop μ-loop
 loop-again c =
-    let l = c .before .before .loop in
-    let a = c .before .before .before .args in
-    let ps = a .priorities .now in (
-      omega arith,
-      l .inv .1,
-      c .better .ensures .1,
-      c .better .ensures .0 ∙ ap (betterOf (rankBy ps) (member (a .room)) (l .c)) (l .inv .3)
-          ∙ better-next (rankBy ps) (member (a .room)) (l .c) (omega arith),
-    )
+    let l = c .before .before .before .before .loop in
+    let a = c .before .before .before .before .before .before .before .args in
+    let f = c .before .before .first2 .ensures in
+    rw (c .rest2 .ensures .0, ← f .0, c .before .higher .ensures)
+    (tops-next (rankBy (a .priorities .now)) (a .s) (ranked (a .priorities .now)) (l .inv) _ (f .1) (f .2))
 
 returns : tie.Need-returns Inv-loop μ-loop
 returns c =
-    let l = c .before .loop in
-    let e : l .c ≡ c .before .before .args .n = omega arith in
-    (rw (← e) (l .inv .3), l .inv .2)
+    let a = c .before .before .before .before .args in
+    let ps = a .priorities .now in
+    let i = c .before .loop .inv in
+    (leads-highest (ranked ps) (tops-all (rankBy ps) (a .s) (ranked ps) (c .loop-test .left) i), i .low)
 
 pub highest-in-spec : {M : Type 1} → statement M
 highest-in-spec =
     tie.close
-    (tie.spec Inv-loop μ-loop loop-holds better-requires add-c loop-less loop-again returns)
+    (tie.spec
+    Inv-loop
+    μ-loop
+    first-requires
+    rest-requires
+    loop-holds
+    first-requires-2
+    higher-requires
+    rest-requires-2
+    loop-less
+    loop-again
+    returns)

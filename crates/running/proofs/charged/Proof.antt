@@ -19,15 +19,14 @@ returns : tie.Need-returns
 returns c =
     let n = c .before .before .before .before .before .before .before .args .n in
     λ v s e h.
-    let told = c .before .before .before .charged .ensures v s (e .0 .sizes) (e .0 .priorities) (e .1) (e .0 .clients)
-    (h .queues .lines)
+    let told = c .before .before .before .charged .ensures v s (e .0) (e .1) (e .2) (h .queues .lines)
     (h .queues .rooms) (h .sound) in
     charges-over n
-    (rw (e .0 .clients) at (c .before .overcharges .ensures) ∙ overcharges-is v (h .sound) (h .charges) told n)
+    (c .before .overcharges .ensures ∙ overcharges-is v (h .sound) (h .charges) told n)
     (c .if1 .taken) h
 
 charge-requires : tie.Need-charge-requires
-charge-requires c κs = (search needs, sym (c .before .before .overcharges .ensures) ∙ c .before .if1 .left)
+charge-requires c κs = sym (c .before .before .overcharges .ensures) ∙ c .before .if1 .left
 
 add-served : tie.Need-add-served
 add-served c = search needs
@@ -42,15 +41,14 @@ returns-2 c =
     let a = b .before .before .before .before .before in
     let n = a .before .before .args .n in
     λ v s e h.
-    let told = b .before .before .before .charged .ensures v s (e .0 .sizes) (e .0 .priorities) (e .1) (e .0 .clients)
-    (h .queues .lines)
+    let told = b .before .before .before .charged .ensures v s (e .0) (e .1) (e .2) (h .queues .lines)
     (h .queues .rooms) (h .sound) in
     charges-fine n
-    (rw (e .0 .clients) at (b .before .overcharges .ensures) ∙ overcharges-is v (h .sound) (h .charges) told n)
+    (b .before .overcharges .ensures ∙ overcharges-is v (h .sound) (h .charges) told n)
     (b .if1 .left)
     (rw (c .served .ensures, h .queues .service .units)
     (shows-charge (shows-server (h .queues) (h .queues .service .server) (h .queues .service .fits)) _))
-    (rw (e .0 .clients) at (c .before .before .before .charge .ensures) ∙ charges-ran v (h .sound) (h .charges) told n)
+    (c .before .before .before .charge .ensures ∙ charges-ran v (h .sound) (h .charges) told n)
 
 pub charged-spec : {M : Type 1} → statement M
 charged-spec =

@@ -39,7 +39,7 @@ returns-3 c =
     refuses h (run n) RunPastCap
     (run-past v s (c .before .before .before .is-idle .ensures ∙ ap isIdle (h .queues .service .server)) n
     (c .before .before .before .before .before .if1 .left) (c .before .before .if2 .left)
-    (c .before .passes-cap .ensures ∙ ap₂ (λ l m. ltb l (m + n)) (e .2) (h .queues .service .units)) (c .if3 .taken))
+    (c .before .passes-cap .ensures ∙ ap₂ (λ l m. ltb l (m + n)) (e .3) (h .queues .service .units)) (c .if3 .taken))
     (λ z. omega arith)
 
 charged-requires : tie.Need-charged-requires
@@ -47,7 +47,7 @@ charged-requires c κs =
     let a = c .before .before .before .before .before .before .before in
     let fits = ltb-false (a .args .cap) _ (sym (c .before .before .passes-cap .ensures) ∙ c .before .if3 .left) in
     let low : a .args .cap < 65536 = search needs in
-    (a .pre .0, a .pre .1, omega arith)
+    (a .pre, omega arith)
 
 returns-4 : tie.Need-returns-4
 returns-4 c =
@@ -56,9 +56,9 @@ returns-4 c =
     λ v s e h.
     run-charges v s (b .is-idle .ensures ∙ ap isIdle (h .queues .service .server)) n (b .before .before .if1 .left)
     (c .before .before .before .before .if2 .left)
-    (c .before .before .before .passes-cap .ensures ∙ ap₂ (λ l m. ltb l (m + n)) (e .2) (h .queues .service .units))
+    (c .before .before .before .passes-cap .ensures ∙ ap₂ (λ l m. ltb l (m + n)) (e .3) (h .queues .service .units))
     (c .before .before .if3 .left)
-    (c .charged .ensures v s (e .0, e .1) h)
+    (c .charged .ensures v s (e .0, e .1, e .2) h)
 
 pub run-spec : {M : Type 1} → statement M
 run-spec =

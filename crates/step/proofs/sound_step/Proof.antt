@@ -26,8 +26,7 @@ wide-requires-2 c κs = search needs
 run-requires : tie.Need-run-requires
 run-requires c κs =
     let a = c .before .before .before .before .before .before .pre in
-    let n = c .before .before .before .before .before .wide in
-    (rw (c .before .wide2 .ensures) (few-clusters (a .1)), rw (n .ensures) (fine (a .1) .clients))
+    rw (c .before .wide2 .ensures) (few-clusters (a .1))
 
 enum-told : tie.Need-enum-told
 enum-told c = search needs
@@ -35,7 +34,7 @@ enum-told c = search needs
 reply-requires : tie.Need-reply-requires
 reply-requires c κs =
     let a = c .before .before .before .pre in
-    (server (a .1), homes (a .1) (a .0), rw (c .before .before .wide .ensures) (fine (a .1) .clients))
+    (server (a .1), homes (a .1) (a .0))
 
 enum-known-e-3 : tie.Need-enum-known-e-3
 enum-known-e-3 c = search needs
@@ -55,30 +54,22 @@ returns c =
 returns-2 : tie.Need-returns-2
 returns-2 c =
     let a = c .before .before .before .before .before .before .before .pre .1 in
-    let n = c .before .before .before .before .before .before .wide in
     rw (c .before .before .before .before .e2 .given .1)
-    (answered a (c .run .result) _ _ (c .run .ensures _ _ (
-      record { sizes = refl; priorities = refl; clients = n .ensures },
-      c .before .before .wide2 .ensures,
-      refl,
-    ) (holds a)))
+    (answered a (c .run .result) _ _
+    (c .run .ensures _ _ (refl, refl, c .before .before .wide2 .ensures, refl) (holds a)))
 
 returns-3 : tie.Need-returns-3
 returns-3 c =
     let a = c .before .before .before .before .pre .1 in
     rw (c .before .enum-told .given .1)
-    (answered a (c .reply .result) _ _ (c .reply .ensures _ _ _
-    (refl, record { sizes = refl; priorities = refl; clients = c .before .before .before .wide .ensures }) (holds a)))
+    (answered a (c .reply .result) _ _ (c .reply .ensures _ _ _ (refl, refl, refl) (holds a)))
 
 returns-4 : tie.Need-returns-4
 returns-4 c =
     let a = c .before .before .before .before .before .pre .1 in
     rw (c .before .before .e3 .given .1)
-    (answered a (c .abort .result) _ _ (c .abort .ensures _ _ _ (
-      refl,
-      refl,
-      record { sizes = refl; priorities = refl; clients = c .before .before .before .before .wide .ensures },
-    ) (holds a)))
+    (answered a (c .abort .result) _ _
+    (c .abort .ensures _ _ _ (refl, refl, refl, refl, c .before .before .before .before .wide .ensures) (holds a)))
 
 pub sound-step-spec : {M : Type 1} → statement M
 sound-step-spec =
