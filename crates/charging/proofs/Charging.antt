@@ -22,11 +22,13 @@ use Rattle.sets.specs.Sets.{countOf, member, setOf, unionOf}
 use Rattle.sets.proofs.Counts.{count-cut}
 use Rattle.sets.proofs.Laws.{member-setOf, setOf-same}
 use Rattle.sets.proofs.Words.{countOf-setOf}
+use Rattle.places.specs.Places.{unpad}
 use Rattle.gate.specs.Shown.{setupOf, showRooms}
 use Rattle.parts.specs.Shows.{ShowsLines}
 use Rattle.gate.specs.declared.Line.{Line}
 use Rattle.gate.specs.declared.Setup.{Setup}
-use Rattle.parts.proofs.Parts.{has-is, line-at, room-at}
+use Rattle.parts.proofs.Parts.{line-at, room-at}
+use Rattle.parts.proofs.Reading.{list-back}
 use Rattle.ranks.specs.Ranks.{bestIn, outrankingIn, rankBy}
 use Rattle.ranks.proofs.Ranks.{rank-is}
 use Rattle.charging.specs.Charged.{waitingIn}
@@ -83,8 +85,8 @@ module _ (v : Setup) {s : State} (sound : Sound (setupOf v) s) where
       member-waiting : (c : ℕ) → c < maxClients
           → member waiting c ≡ waits (setupOf v) s c && eqb (setupOf v .cluster c) k
       member-waiting c b =
-          member-setOf maxClients (λ x. has x (getD ls k d .places) || member (getD rs k 0) x) c b
-          ∙ ap₂ (λ x y. x || y) (has-is (line-at lines k low d) b)
+          member-setOf maxClients (λ x. has x (unpad (getD ls k d .places)) || member (getD rs k 0) x) c b
+          ∙ ap₂ (λ x y. x || y) (ap (has c) (list-back (line-at lines k low d)))
           (ap (λ x. member x c) (room-at (setupOf v .cluster) (s .room) rooms low 0)
           ∙ member-setOf maxClients (inRoom (setupOf v) s k) c b)
           ∙ waits-in k c

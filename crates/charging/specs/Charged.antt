@@ -8,11 +8,12 @@ use lib.ListN.{getD, length}
 use Rattle.rules.specs.Limits.{maxClients, maxCharge}
 use Rattle.rules.specs.Lists.{has}
 use Rattle.sets.specs.Sets.{member, setOf}
+use Rattle.places.specs.Places.{unpad}
 use Rattle.gate.specs.Shown.{table}
 
--- those in the places of a line, and those in a room
+-- those in the used places of a line, and those in a room
 abbrev pub waitingIn : List ℕ → ℕ → ℕ
-waitingIn q room = setOf maxClients (λ (c : ℕ). has c q || member room c)
+waitingIn q room = setOf maxClients (λ (c : ℕ). has c (unpad q) || member room c)
 
 -- c is in the set, and n units more would carry its charge past the limit
 abbrev pub overchargesIn : List ℕ → ℕ → ℕ → ℕ → Bool

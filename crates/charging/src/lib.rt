@@ -23,7 +23,7 @@ ghost use Rattle.charging.specs.Charged.{waitingIn, overchargesIn, grown
 
 // WHO WAITS
 
-// Who is in a line or in a room.
+// Who is in a line or in a room. The line ends at its first unused place.
 fn waiting_in(l: Line, room: u64) -> u64
     ensures { λ r. ⌜ r ≡ waitingIn (l .places) room ⌝ }
 {
@@ -31,6 +31,9 @@ fn waiting_in(l: Line, room: u64) -> u64
     let mut s = room;
     let mut i: usize = 0;
     while i < Gate::MAX_SIZE {
+        if q[i] == places::UNUSED {
+            return s;
+        }
         s = sets::with(s, gate::wide(q[i]));
         i += 1;
     }

@@ -10,7 +10,7 @@ use Rattle.rules.specs.Lists.{upd}
 use Rattle.sets.specs.Sets.{member, withOf}
 use Rattle.sets.proofs.Laws.{setOf-below}
 use Rattle.charging.specs.Charged.{waitingIn}
-use Rattle.charging.proofs.Waiting.{waiting-end, waiting-turn}
+use Rattle.charging.proofs.Waiting.{waiting-end, waiting-stop, waiting-turn}
 use Rattle.charging.proofs.waiting_in.Statement.{statement}
 use Rattle.charging.proofs.waiting_in.Tie as tie
 
@@ -22,6 +22,15 @@ abbrev μ-loop : tie.MeasureT-loop
 
 loop-holds : tie.Need-loop-holds Inv-loop μ-loop
 loop-holds c = (omega arith, search needs, omega arith, refl)
+
+array-read-if1 : tie.Need-array-read-if1 Inv-loop μ-loop
+array-read-if1 c = omega arith
+
+returns : tie.Need-returns Inv-loop μ-loop
+returns c =
+    let l = c .before .before .loop in
+    let q = c .before .before .before .before .args .l .places in
+    waiting-stop q (l .s) (l .i) (omega arith) (c .if1 .taken) (l .inv .2) ∙ l .inv .3
 
 array-read-wide : tie.Need-array-read-wide Inv-loop μ-loop
 array-read-wide c = omega arith
@@ -40,18 +49,18 @@ loop-less c = omega arith
 
 loop-again : tie.Need-loop-again Inv-loop μ-loop
 loop-again c =
-    let l = c .before .before .before .loop in
-    let q = c .before .before .before .before .before .args .l .places in
+    let l = c .before .before .before .before .loop in
+    let q = c .before .before .before .before .before .before .args .l .places in
     let e : c .with .result ≡ withOf (l .s) (getD q (l .i) 0) =
     rw (c .before .wide .ensures) at (c .with .ensures) in (
       omega arith,
       l .inv .1,
       rw e (setOf-below 64 (upd (member (l .s)) (getD q (l .i) 0) true)),
-      rw e (waiting-turn q (l .s) (l .i) (omega arith)) ∙ l .inv .3,
+      rw e (waiting-turn q (l .s) (l .i) (omega arith) (c .before .before .if1 .left)) ∙ l .inv .3,
     )
 
-returns : tie.Need-returns Inv-loop μ-loop
-returns c =
+returns-2 : tie.Need-returns-2 Inv-loop μ-loop
+returns-2 c =
     let l = c .before .loop in
     let q = c .before .before .before .args .l .places in
     waiting-end q (l .s) (l .i) (omega arith) (l .inv .2) ∙ l .inv .3
@@ -63,10 +72,12 @@ waiting-in-spec =
     Inv-loop
     μ-loop
     loop-holds
+    array-read-if1
+    returns
     array-read-wide
     wide-requires
     with-requires
     add-i
     loop-less
     loop-again
-    returns)
+    returns-2)
