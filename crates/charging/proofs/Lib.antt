@@ -3,3 +3,4 @@ pub mod Building
 pub mod Waiting
 pub mod Charging
 pub mod Growing
+pub mod Cases

@@ -1,6 +1,6 @@
 -- The best of those seen, over words: one more is seen, the first m, and all.
 -- Assumes nothing.
-use Prim.Native.Nat.{ℕ, _+_, _^_, _≤_, _<_}
+use Prim.Native.Nat.{ℕ, _^_, _≤_, _<_}
 use mathlib.Core.Bool.{Bool, true, false, not, _&&_, and-false, cond}
 use mathlib.Core.List.{List}
 use mathlib.Core.Option.{some}

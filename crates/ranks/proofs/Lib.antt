@@ -4,3 +4,4 @@ pub mod Tops
 pub mod Left
 pub mod Best
 pub mod Keeping
+pub mod Cases

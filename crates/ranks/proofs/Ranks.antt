@@ -1,7 +1,7 @@
 -- Rank by priorities is a strict total order, which ever way round; and the one that leads is the highest.
 -- Assumes nothing.
 use Prim.Native.Nat.{ℕ, zero, suc, _≤_, _<_}
-use mathlib.Core.Bool.{Bool, true, false}
+use mathlib.Core.Bool.{Bool, false}
 use mathlib.Core.List.{List}
 use mathlib.Core.Logic.{by-cases}
 use mathlib.Core.Option.{Option, none, some}
@@ -9,12 +9,12 @@ use mathlib.Core.Path.{_≡_, ap, refl, subst, sym}
 use native.Mathlib.Decide.{ℕ-discrete}
 use native.Mathlib.Omega.{arith}
 use lib.ListN.{getD}
-use Rattle.rules.specs.Lists.{higher, highest}
+use Rattle.rules.specs.Lists.{highest}
 use Rattle.rules.specs.Rank.{Rank, outranks}
 use Rattle.rules.specs.State.{State, fresh}
 use Rattle.rules.proofs.Highest.{Leader, Leads, StrictTotal, highest-leads}
 use Rattle.rules.proofs.Ranking.{by-priority}
-use Rattle.rules.proofs.Tests.{by-test, clash}
+use Rattle.rules.proofs.Tests.{clash}
 use Rattle.gate.specs.Shown.{setupOf}
 use Rattle.gate.specs.declared.Setup.{Setup}
 use Rattle.ranks.specs.Ranks.{rankBy, turned}

@@ -1,11 +1,12 @@
 -- Membership bit by bit: the lowest bit, the bits above it, the bits of a sum, of an or and of a xor. For any width.
 -- Assumes nothing.
 use Prim.Native.Nat.{ℕ, zero, suc, _+_, _*_, _/_, _%_, _^_, _≤_, _<_}
-use mathlib.Core.Path.{_≡_, refl, sym, ap, _∙_}
+use mathlib.Core.Path.{_≡_, refl, sym, ap, subst, _∙_}
 use mathlib.Core.Bool.{Bool, true, false, xor, _||_, cond}
 use mathlib.Core.Logic.{_⊎_, inl, inr, ⊎-elim}
 use native.Mathlib.Nat.{pow-suc, one-mul, zero-add, zero-lt-suc, mod-lt, eq-zero-or-pos, not-suc-le-zero}
-use native.Mathlib.Nat.{le-of-suc-le-suc, lt-of-lt-of-le, div-one, div-eq-of-lt, div-div-eq-div-mul, mul-comm}
+use native.Mathlib.Nat.{le-of-suc-le-suc, lt-of-lt-of-le, div-one, div-eq-of-lt, div-div-eq-div-mul}
+use native.Mathlib.Nat.{div-lt-iff-lt-mul, mul-comm}
 use native.Mathlib.Omega.{arith}
 use lib.Bits.{bitOr, bitXor, or-shr, or-mod, xor-shr, xor-mod, block-half, block-odd, shifted-even, shifted-half}
 use lib.Dec.{eqb, eqb·zero-suc, eqb·suc-zero, eqb·suc-suc}
@@ -15,6 +16,10 @@ use Rattle.sets.specs.Sets.{member}
 -- a remainder of 2 is 0 or 1
 pub bit : (x : ℕ) → (x % 2 ≡ 0) ⊎ (x % 2 ≡ 1)
 bit x = ⊎-elim (λ e. inl e) (λ h. inr (omega (arith, mod-lt x (zero-lt-suc 1)))) (eq-zero-or-pos (x % 2))
+
+-- half of a word
+pub half-word : (n s : ℕ) → s < 2 ^ suc n → s / 2 < 2 ^ n
+half-word n s h = div-lt-iff-lt-mul (zero-lt-suc 1) .1 (subst (λ (m : ℕ). s < m) (pow-suc 2 n) h)
 
 -- the lowest bit, and the bits above it
 pub member-low : (s : ℕ) → member s zero ≡ eqb (s % 2) 1

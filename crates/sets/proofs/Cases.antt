@@ -3,8 +3,9 @@
 use Prim.Native.Nat.{ℕ}
 use mathlib.Core.Path.{_≡_, refl}
 use mathlib.Core.Bool.{true, false, _||_}
+use lib.Count.{trailingZeros}
 use lib.Dec.{eqb, ltb}
-use Rattle.sets.specs.Sets.{member, setOf, withOf, withoutOf, lessOf, countOf}
+use Rattle.sets.specs.Sets.{member, setOf, withOf, withoutOf, lessOf, countOf, firstOf}
 
 -- 13 = 8 + 4 + 1 is the set of 0, 2 and 3
 member-13 :
@@ -41,3 +42,8 @@ less-13 = (refl, refl)
 count-some : (countOf 0 ≡ 0) × (countOf 13 ≡ 3) × (countOf 18446744073709551615 ≡ 64)
 unfolding member countOf
 count-some = (refl, refl, refl)
+
+-- the lowest of 0, 2 and 3, of 2 and 3, and of 63; 64 where there is nobody
+first-some : (firstOf 13 ≡ 0) × (firstOf 12 ≡ 2) × (firstOf 9223372036854775808 ≡ 63) × (firstOf 0 ≡ 64)
+unfolding trailingZeros
+first-some = (refl, refl, refl, refl)

@@ -1,11 +1,11 @@
 -- The laws of sets: their members, when two are the same, one member more or less, none. For any width n.
 -- Assumes nothing.
 use Prim.Native.Nat.{ℕ, zero, suc, _+_, _*_, _/_, _%_, _^_, _≤_, _<_}
-use mathlib.Core.Path.{_≡_, refl, sym, ap, ap₂, _∙_, subst}
+use mathlib.Core.Path.{_≡_, refl, sym, ap, ap₂, _∙_}
 use mathlib.Core.Bool.{Bool, true, false, cond}
 use mathlib.Core.Logic.{_⊎_, inl, inr, ⊎-elim, by-cases}
-use native.Mathlib.Nat.{pow-suc, zero-lt-suc, not-suc-le-zero, le-of-suc-le-suc, eq-or-lt-of-le, lt-of-lt-of-le}
-use native.Mathlib.Nat.{div-add-mod', div-lt-iff-lt-mul}
+use native.Mathlib.Nat.{div-add-mod', eq-or-lt-of-le, le-of-suc-le-suc, lt-of-lt-of-le, not-suc-le-zero}
+use native.Mathlib.Nat.{pow-suc, zero-lt-suc}
 use native.Mathlib.Decide.{ℕ-discrete, decLt}
 use native.Mathlib.Numerals.{add-one}
 use native.Mathlib.Omega.{arith}
@@ -14,7 +14,8 @@ use lib.Dec.{eqb}
 use lib.Pow.{pow-mono, pow-pos}
 use Rattle.rules.specs.Lists.{upd}
 use Rattle.sets.specs.Sets.{member, setOf}
-use Rattle.sets.proofs.Bits.{bit, member-low, member-suc, member-past, member-none, member-below, member-top}
+use Rattle.sets.proofs.Bits.{bit, half-word, member-below, member-low, member-none, member-past, member-suc}
+use Rattle.sets.proofs.Bits.{member-top}
 
 -- MEMBERS
 
@@ -50,7 +51,7 @@ same-set zero s t hs ht all = let x : s < 1 = hs in let y : t < 1 = ht in omega 
 same-set (suc n) s t hs ht all =
     let lo : s % 2 ≡ t % 2 = lowest (bit s) (bit t) (sym (member-low s) ∙ all 0 (zero-lt-suc n) ∙ member-low t) in
     let hi : s / 2 ≡ t / 2 =
-    same-set n (s / 2) (t / 2) (half s hs) (half t ht)
+    same-set n (s / 2) (t / 2) (half-word n s hs) (half-word n t ht)
     (λ (j : ℕ) (h : j < n). sym (member-suc s j) ∙ all (suc j) (omega arith) ∙ member-suc t j) in
     sym (div-add-mod' s 2) ∙ ap₂ (λ (x y : ℕ). x * 2 + y) hi lo ∙ div-add-mod' t 2
   where
@@ -59,9 +60,6 @@ same-set (suc n) s t hs ht all =
     lowest (inr x) (inr y) e = cc
     lowest (inl x) (inr y) e = let z : false ≡ true = rw (x, y) at e in cc
     lowest (inr x) (inl y) e = let z : true ≡ false = rw (x, y) at e in cc
-
-    half : (x : ℕ) → x < 2 ^ suc n → x / 2 < 2 ^ n
-    half x h = div-lt-iff-lt-mul (zero-lt-suc 1) .1 (subst (λ (m : ℕ). x < m) (pow-suc 2 n) h)
 
 -- a word of n bits whose members pass the test, and no others below n, is the set of the test
 pub is-setOf : (n s : ℕ) (p : ℕ → Bool) → s < 2 ^ n → ((j : ℕ) → j < n → member s j ≡ p j) → s ≡ setOf n p

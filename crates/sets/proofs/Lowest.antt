@@ -1,22 +1,18 @@
 -- The lowest bit of a word: which it is, and the word without it. For any width n.
 -- Assumes nothing.
-use Prim.Native.Nat.{ℕ, zero, suc, _+_, _-_, _*_, _/_, _%_, _^_, _≤_, _<_}
-use mathlib.Core.Path.{_≡_, refl, sym, ap, ap₂, _∙_, subst}
-use mathlib.Core.Bool.{Bool, true, false, _&&_, cond}
-use mathlib.Core.Logic.{_⊎_, inl, inr, ⊎-elim}
-use native.Mathlib.Nat.{pow-suc, zero-lt-suc, div-add-mod', div-lt-iff-lt-mul, mod-lt}
+use Prim.Native.Nat.{ℕ, zero, suc, _+_, _-_, _*_, _/_, _%_, _^_, _<_}
+use mathlib.Core.Bool.{true, false}
+use mathlib.Core.Logic.{⊎-elim}
+use mathlib.Core.Path.{_≡_, sym, _∙_}
+use native.Mathlib.Nat.{div-add-mod', zero-lt-suc}
 use native.Mathlib.Omega.{arith}
-use lib.Bits.{bitAnd, and-step, and-self, and-shr, and-mod, and-lt, and-le-r}
-use lib.Count.{trailingZeros, under}
-use lib.Dec.{eqb, eqb·zero-suc, eqb·suc-zero, eqb·suc-suc}
+use lib.Bits.{bitAnd, and-le-r, and-lt, and-self, and-step}
+use lib.Count.{trailingZeros}
+use lib.Dec.{eqb·suc-suc, eqb·suc-zero, eqb·zero-suc}
 use Rattle.rules.specs.Lists.{upd}
 use Rattle.sets.specs.Sets.{member, setOf}
-use Rattle.sets.proofs.Bits.{bit, member-low, member-suc}
+use Rattle.sets.proofs.Bits.{bit, half-word, member-low, member-suc}
 use Rattle.sets.proofs.Laws.{is-setOf}
-
--- half of a word
-half-word : (n s : ℕ) → s < 2 ^ suc n → s / 2 < 2 ^ n
-half-word n s h = div-lt-iff-lt-mul (zero-lt-suc 1) .1 (subst (λ (m : ℕ). s < m) (pow-suc 2 n) h)
 
 -- an even word that is not empty has a half that is not
 half-pos : (s : ℕ) → 0 < s → s % 2 ≡ 0 → 0 < s / 2
@@ -46,13 +42,13 @@ and-even : (s : ℕ) → 0 < s → s % 2 ≡ 0 → bitAnd s (s - 1) ≡ bitAnd (
 and-even s h e =
     let d : (s - 1) / 2 ≡ s / 2 - 1 = omega arith in
     let m : (s - 1) % 2 ≡ 1 = omega arith in
-    and-step s (s - 1) ∙ rw (d, m, e) refl
+    and-step s (s - 1) ∙ rw (d, m, e)
 
 and-odd : (s : ℕ) → s % 2 ≡ 1 → bitAnd s (s - 1) ≡ s / 2 * 2 + 0
 and-odd s e =
     let d : (s - 1) / 2 ≡ s / 2 = omega arith in
     let m : (s - 1) % 2 ≡ 0 = omega arith in
-    and-step s (s - 1) ∙ rw (d, m, e, and-self (s / 2)) refl
+    and-step s (s - 1) ∙ rw (d, m, e, and-self (s / 2))
 
 -- the bits of a word and the word below it: all but the lowest
 pub rest-bits : (n s : ℕ) → s < 2 ^ n → 0 < s → (j : ℕ)
@@ -71,10 +67,10 @@ rest-bits (suc n) s h p j =
         ≡ upd (member s) (suc (trailingZeros n (s / 2))) false j
     even e ih zero =
         twice-low (bitAnd (s / 2) (s / 2 - 1))
-        ∙ sym (rw (eqb·zero-suc (trailingZeros n (s / 2)), member-low s, e) refl)
+        ∙ sym (rw (eqb·zero-suc (trailingZeros n (s / 2)), member-low s, e))
     even e ih (suc j) =
         twice-suc (bitAnd (s / 2) (s / 2 - 1)) j ∙ ih j
-        ∙ sym (rw (eqb·suc-suc j (trailingZeros n (s / 2)), member-suc s j) refl)
+        ∙ sym (rw (eqb·suc-suc j (trailingZeros n (s / 2)), member-suc s j))
 
     odd : s % 2 ≡ 1 → (j : ℕ) → member (s / 2 * 2 + 0) j ≡ upd (member s) 0 false j
     odd e zero = twice-low (s / 2)
