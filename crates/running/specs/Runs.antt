@@ -1,4 +1,4 @@
--- The last of a run, as its function promises it.
+-- A run and the last of it, as their functions promise them: of queues of which they are handed a part.
 -- Assumes nothing.
 use Prim.Native.Nat.{ℕ}
 use mathlib.Core.Path.{_≡_}
@@ -9,14 +9,18 @@ use Rattle.rules.specs.Refusals.{accepted, unsound}
 use Rattle.rules.specs.Setup as rules
 use Rattle.rules.specs.State.{State}
 use Rattle.rules.specs.Rank.{outranks}
-use Rattle.rules.specs.Events.{ran}
+use Rattle.rules.specs.Events.{ran, run}
 use Rattle.rules.specs.Step.{overcharges}
+use Rattle.gate.specs.declared.Line.{Line}
 use Rattle.gate.specs.declared.Setup.{Setup}
 use Rattle.parts.specs.declared.Queues.{Queues}
+use Rattle.parts.specs.declared.Service.{Service}
+use Rattle.parts.specs.Parts.{putServer}
 use Rattle.gate.specs.Shown.{setupOf, table}
 use Rattle.parts.specs.Shows.{ShowsQueues}
 use Rattle.answers.specs.declared.Outcome.{Outcome}
-use Rattle.answers.specs.Answers.{Holds, numberOf}
+use Rattle.answers.specs.Answers.{Answering, Holds, numberOf}
+use Rattle.running.specs.declared.Ran.{Ran}
 
 -- what is left of a run of n: nothing where a charge would pass its limit, else the run
 abbrev pub runs : rules.Setup → ℕ → State → State
@@ -28,6 +32,17 @@ pub record Charges (v : Setup) (s : State) (n : ℕ) (r : Outcome) (cs : List �
   pub queues : ShowsQueues v (runs (setupOf v) n s) (r .queues)
   pub charges : cs ≡ table maxClients (runs (setupOf v) n s .charge)
 
--- The promise of its function, in every sound state that the queues q and charges cs show, of a setup of which p holds.
-abbrev pub Charging : (Setup → Type 0) → ℕ → Queues → List ℕ → Outcome → List ℕ → Type 0
-Charging p n q cs r cs′ = (v : Setup) (s : State) → p v → Holds v s q cs → Charges v s n r cs′
+-- the queues q, with the service after a run, and its answer
+abbrev pub outcome : Queues → Ran → Outcome
+outcome q r = record { queues = putServer (r .service .server) (r .service .units) q; answer = r .answer }
+
+-- The promises of the two functions, for all queues with these lines, rooms and service: so it is in every sound state
+-- that the queues and the charges cs show, of a setup of which p holds; cs′ are the charges after.
+abbrev pub Charging : (Setup → Type 0) → ℕ → List Line → List ℕ → Service → List ℕ → Ran → List ℕ → Type 0
+Charging p n lines rooms y cs r cs′ =
+    (q : Queues) → q .lines ≡ lines → q .rooms ≡ rooms → q .service ≡ y → (v : Setup) (s : State) → p v
+    → Holds v s q cs → Charges v s n (outcome q r) cs′
+
+abbrev pub Running : (Setup → Type 0) → ℕ → List Line → List ℕ → Service → List ℕ → Ran → List ℕ → Type 0
+Running p n lines rooms y cs r cs′ =
+    (q : Queues) → q .lines ≡ lines → q .rooms ≡ rooms → q .service ≡ y → Answering p (run n) q cs (outcome q r) cs′

@@ -2,14 +2,16 @@
 
 use answers::Answer;
 use answers::Outcome;
+use gate::Line;
 use parts::Queues;
+use parts::Service;
 ghost use mathlib.Core.Path.{_≡_};
 ghost use Prim.Native.Nat.{_+_, _≤_};
 ghost use lib.Dec.{ltb};
 ghost use Rattle.rules.specs.Limits.{maxClusters, maxCap};
 ghost use Rattle.rules.specs.Events as rules;
 ghost use Rattle.answers.specs.Answers.{Answering};
-ghost use Rattle.running.specs.Runs.{Charging};
+ghost use Rattle.running.specs.Runs.{Charging, Running};
 
 // Whether n units more would carry the units served past the cap.
 fn passes_cap(cap: u16, units: u32, n: u16) -> bool
@@ -21,39 +23,89 @@ fn passes_cap(cap: u16, units: u32, n: u16) -> bool
     ((cap - n) as u32) < units
 }
 
+// What a run comes to: the service after it, and the answer.
+struct Ran {
+    service: Service,
+    answer: Answer,
+}
+
 // The last of a run: 19 for the charge, or the run.
-fn charged<'a>(
-    q: Queues,
-    sizes: &'a [u8; 8],
-    priorities: &'a [u16; 64],
+fn charged(
+    lines: [Line; 8],
+    rooms: &[u64; 8],
+    y: Service,
+    sizes: &[u8; 8],
+    priorities: &[u16; 64],
     clusters: usize,
     charges: &mut [u32; 64],
     n: u16,
-) -> Outcome
-    requires { ⌜ (clusters ≤ maxClusters) × (q .service .units + n ≤ maxCap) ⌝ }
+) -> Ran
+    requires { ⌜ (clusters ≤ maxClusters) × (y .units + n ≤ maxCap) ⌝ }
     ensures { λ r.
         ⌜ Charging (λ v. (now (sizes .entry) ≡ v .sizes) × (now (priorities .entry) ≡ v .priorities)
-        × (clusters ≡ v .clusters)) n q (now (charges .entry)) r (now (charges .exit)) ⌝ }
+        × (clusters ≡ v .clusters)) n lines (now (rooms .entry)) y (now (charges .entry)) r (now (charges .exit)) ⌝ }
 {
-    let lines = q.lines;
-    let set = charging::charged(lines, &q.rooms, sizes, priorities, clusters);
+    let set = charging::charged(lines, rooms, sizes, priorities, clusters);
     if charging::overcharges(charges, set, n) {
-        return Outcome {
+        return Ran {
+            service: y,
             answer: Answer::Unsound,
-            queues: q,
         };
     }
     charging::charge(charges, set, n);
-    let y = q.service;
     let server = y.server;
-    let r = moves::served(q, server, y.units + (n as u32));
-    Outcome {
+    let units = y.units + (n as u32);
+    let after = Service {
+        server: server,
+        units: units,
+    };
+    Ran {
+        service: after,
         answer: Answer::Accepted,
-        queues: r,
     }
 }
 
-// Run n: 13, 12, 14, then 19 for the charge.
+// A run of n: 13, 12, 14, then 19 for the charge.
+fn answered(
+    lines: [Line; 8],
+    rooms: &[u64; 8],
+    y: Service,
+    sizes: &[u8; 8],
+    priorities: &[u16; 64],
+    clusters: usize,
+    cap: u16,
+    charges: &mut [u32; 64],
+    n: u16,
+) -> Ran
+    requires { ⌜ clusters ≤ maxClusters ⌝ }
+    ensures { λ r.
+        ⌜ Running (λ v. (now (sizes .entry) ≡ v .sizes) × (now (priorities .entry) ≡ v .priorities)
+        × (clusters ≡ v .clusters) × (cap ≡ v .cap)) n lines (now (rooms .entry)) y (now (charges .entry)) r
+        (now (charges .exit)) ⌝ }
+{
+    if n == 0 {
+        return Ran {
+            service: y,
+            answer: Answer::RunOfNone,
+        };
+    }
+    let server = y.server;
+    if serving::is_idle(server) {
+        return Ran {
+            service: y,
+            answer: Answer::ServerIdle,
+        };
+    }
+    if passes_cap(cap, y.units, n) {
+        return Ran {
+            service: y,
+            answer: Answer::RunPastCap,
+        };
+    }
+    charged(lines, rooms, y, sizes, priorities, clusters, charges, n)
+}
+
+// Run n. It changes the service of the queues, and nothing else of them.
 pub fn run<'a>(
     q: Queues,
     sizes: &'a [u8; 8],
@@ -68,25 +120,25 @@ pub fn run<'a>(
         ⌜ Answering (λ v. (now (sizes .entry) ≡ v .sizes) × (now (priorities .entry) ≡ v .priorities)
         × (clusters ≡ v .clusters) × (cap ≡ v .cap)) (rules.run n) q (now (charges .entry)) r (now (charges .exit)) ⌝ }
 {
-    if n == 0 {
-        return Outcome {
-            answer: Answer::RunOfNone,
-            queues: q,
-        };
-    }
+    let lines = q.lines;
     let y = q.service;
-    let server = y.server;
-    if serving::is_idle(server) {
-        return Outcome {
-            answer: Answer::ServerIdle,
-            queues: q,
-        };
+    let r = answered(
+        lines,
+        &q.rooms,
+        y,
+        sizes,
+        priorities,
+        clusters,
+        cap,
+        charges,
+        n,
+    );
+    let after = r.service;
+    let answer = r.answer;
+    let mut next = q;
+    next.service = after;
+    Outcome {
+        queues: next,
+        answer: answer,
     }
-    if passes_cap(cap, y.units, n) {
-        return Outcome {
-            answer: Answer::RunPastCap,
-            queues: q,
-        };
-    }
-    charged(q, sizes, priorities, clusters, charges, n)
 }

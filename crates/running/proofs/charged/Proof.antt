@@ -17,38 +17,32 @@ overcharges-requires c κs = search needs
 
 returns : tie.Need-returns
 returns c =
-    let n = c .before .before .before .before .before .before .before .args .n in
-    λ v s e h.
-    let told = c .before .before .before .charged .ensures v s (e .0) (e .1) (e .2) (h .queues .lines)
-    (h .queues .rooms) (h .sound) in
-    charges-over n
-    (c .before .overcharges .ensures ∙ overcharges-is v (h .sound) (h .charges) told n)
-    (c .if1 .taken) h
+    let n = c .before .before .before .before .args .n in
+    λ q lines rooms service v s e h.
+    let told = c .before .before .before .charged .ensures v s (e .0) (e .1) (e .2) (rw lines at (h .queues .lines))
+    (sym rooms ∙ h .queues .rooms) (h .sound) in
+    rw (← service)
+    (charges-over n (c .before .overcharges .ensures ∙ overcharges-is v (h .sound) (h .charges) told n)
+    (c .if1 .taken) h)
 
 charge-requires : tie.Need-charge-requires
 charge-requires c κs = sym (c .before .before .overcharges .ensures) ∙ c .before .if1 .left
 
-add-served : tie.Need-add-served
-add-served c = search needs
-
-served-requires : tie.Need-served-requires
-served-requires c κs = search needs
+add-units : tie.Need-add-units
+add-units c = search needs
 
 returns-2 : tie.Need-returns-2
 unfolding ran
 returns-2 c =
-    let b = c .before .before .before .before .before in
-    let a = b .before .before .before .before .before in
-    let n = a .before .before .args .n in
-    λ v s e h.
-    let told = b .before .before .before .charged .ensures v s (e .0) (e .1) (e .2) (h .queues .lines)
-    (h .queues .rooms) (h .sound) in
-    charges-fine n
-    (b .before .overcharges .ensures ∙ overcharges-is v (h .sound) (h .charges) told n)
-    (b .if1 .left)
-    (rw (c .served .ensures, h .queues .service .units)
+    let b = c .before .before .before in
+    let n = b .before .before .before .before .args .n in
+    λ q lines rooms service v s e h.
+    let told = b .before .before .before .charged .ensures v s (e .0) (e .1) (e .2) (rw lines at (h .queues .lines))
+    (sym rooms ∙ h .queues .rooms) (h .sound) in
+    charges-fine n (b .before .overcharges .ensures ∙ overcharges-is v (h .sound) (h .charges) told n) (b .if1 .left)
+    (rw (← service, h .queues .service .units)
     (shows-charge (shows-server (h .queues) (h .queues .service .server) (h .queues .service .fits)) _))
-    (c .before .before .before .charge .ensures ∙ charges-ran v (h .sound) (h .charges) told n)
+    (c .before .charge .ensures ∙ charges-ran v (h .sound) (h .charges) told n)
 
 pub charged-spec : {M : Type 1} → statement M
 charged-spec =
@@ -58,6 +52,5 @@ charged-spec =
     overcharges-requires
     returns
     charge-requires
-    add-served
-    served-requires
+    add-units
     returns-2)

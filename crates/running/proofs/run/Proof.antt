@@ -1,73 +1,15 @@
--- `running::run` meets its contract: 13, 12, 14, or what is left of the run.
+-- `running::run` meets its contract: the queues with the service that `answered` leaves.
 -- Assumes nothing.
-use Prim.Native.Nat.{_+_, _<_}
-use mathlib.Core.Path.{_∙_, ap, ap₂, sym}
-use native.Mathlib.Omega.{arith}
-use lib.Dec.{ltb}
+use mathlib.Core.Path.{refl}
 use borrow.Author.Needs.{needs}
-use borrow.Author.Tests.{ltb-false}
-use Rattle.rules.specs.Events.{run}
-use Rattle.rules.specs.State.{isIdle}
-use Rattle.answers.specs.declared.Answer.the-variants.{RunOfNone, RunPastCap, ServerIdle}
-use Rattle.answers.proofs.Answering.{refuses}
-use Rattle.running.proofs.Running.{run-charges, run-idle, run-none, run-past}
 use Rattle.running.proofs.run.Statement.{statement}
 use Rattle.running.proofs.run.Tie as tie
 
+answered-requires : tie.Need-answered-requires
+answered-requires c κs = search needs
+
 returns : tie.Need-returns
-returns c =
-    let n = c .before .args .n in
-    λ v s e h. refuses h (run n) RunOfNone (run-none v s n (c .if1 .taken)) (λ z. omega arith)
-
-is-idle-requires : tie.Need-is-idle-requires
-is-idle-requires c κs = search needs
-
-returns-2 : tie.Need-returns-2
-returns-2 c =
-    let n = c .before .before .before .before .args .n in
-    λ v s e h.
-    refuses h (run n) ServerIdle (run-idle v s (c .before .is-idle .ensures ∙ ap isIdle (h .queues .service .server)) n
-    (c .before .before .before .if1 .left) (c .if2 .taken)) (λ z. omega arith)
-
-passes-cap-requires : tie.Need-passes-cap-requires
-passes-cap-requires c κs = search needs
-
-returns-3 : tie.Need-returns-3
-returns-3 c =
-    let n = c .before .before .before .before .before .before .args .n in
-    λ v s e h.
-    refuses h (run n) RunPastCap
-    (run-past v s (c .before .before .before .is-idle .ensures ∙ ap isIdle (h .queues .service .server)) n
-    (c .before .before .before .before .before .if1 .left) (c .before .before .if2 .left)
-    (c .before .passes-cap .ensures ∙ ap₂ (λ l m. ltb l (m + n)) (e .3) (h .queues .service .units)) (c .if3 .taken))
-    (λ z. omega arith)
-
-charged-requires : tie.Need-charged-requires
-charged-requires c κs =
-    let a = c .before .before .before .before .before .before .before in
-    let fits = ltb-false (a .args .cap) _ (sym (c .before .before .passes-cap .ensures) ∙ c .before .if3 .left) in
-    let low : a .args .cap < 65536 = search needs in
-    (a .pre, omega arith)
-
-returns-4 : tie.Need-returns-4
-returns-4 c =
-    let b = c .before .before .before .before .before in
-    let n = b .before .before .before .args .n in
-    λ v s e h.
-    run-charges v s (b .is-idle .ensures ∙ ap isIdle (h .queues .service .server)) n (b .before .before .if1 .left)
-    (c .before .before .before .before .if2 .left)
-    (c .before .before .before .passes-cap .ensures ∙ ap₂ (λ l m. ltb l (m + n)) (e .3) (h .queues .service .units))
-    (c .before .before .if3 .left)
-    (c .charged .ensures v s (e .0, e .1, e .2) h)
+returns c = c .before .answered .ensures _ refl refl refl
 
 pub run-spec : {M : Type 1} → statement M
-run-spec =
-    tie.close
-    (tie.spec
-    returns
-    is-idle-requires
-    returns-2
-    passes-cap-requires
-    returns-3
-    charged-requires
-    returns-4)
+run-spec = tie.close (tie.spec answered-requires returns)
