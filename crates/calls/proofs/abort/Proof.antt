@@ -110,7 +110,8 @@ returns-5 c =
     (c .before .before .before .waits .ensures ∙ waits-is (h .queues)
     (rw (e .1) at (b .before .before .before .before .home .ensures)) _ _) (not-false _ (c .before .before .if3 .left))
     (c .before .if4 .left))
-    (c .aborted .ensures v s (fine h) (e .1, refills v s (h .sound) (e .2) (e .3), turn v s (h .sound) d) (h .queues)) (abort-charge h d)
+    (c .aborted .ensures v s (fine h) (e .1, refills v s (h .sound) (e .2) (e .3), turn v s (h .sound) d) (h .queues))
+    (abort-charge h d)
 
 pub abort-spec : {M : Type 1} → statement M
 abort-spec =

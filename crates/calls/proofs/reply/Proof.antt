@@ -32,7 +32,8 @@ returns-2 c =
     λ cs v s e h.
     accepts reply (reply-fine v s (c .before .before .is-idle .ensures ∙ ap isIdle (h .queues .service .server))
     (c .before .if1 .left))
-    (c .replied .ensures v s (fine h) (e .0, refills v s (h .sound) (e .1) (e .2), yields v s (h .sound)) (h .queues)) (reply-charge h)
+    (c .replied .ensures v s (fine h) (e .0, refills v s (h .sound) (e .1) (e .2), yields v s (h .sound)) (h .queues))
+    (reply-charge h)
 
 pub reply-spec : {M : Type 1} → statement M
 reply-spec = tie.close (tie.spec is-idle-requires returns replied-requires returns-2)

@@ -29,7 +29,8 @@ returns-2 c =
     λ q lines rooms service v s e h.
     let idle = c .before .is-idle .ensures ∙ ap isIdle (rw service at (h .queues .service .server)) in
     rw (← service)
-    (refuses h (run n) ServerIdle (run-idle v s idle n (c .before .before .if1 .left) (c .if2 .taken)) (λ z. omega arith))
+    (refuses h (run n) ServerIdle (run-idle v s idle n (c .before .before .if1 .left) (c .if2 .taken))
+    (λ z. omega arith))
 
 passes-cap-requires : tie.Need-passes-cap-requires
 passes-cap-requires c κs = search needs
