@@ -14,7 +14,7 @@ use Rattle.sets.specs.Sets.{setOf, unionOf}
 use Rattle.sets.proofs.Laws.{member-setOf, setOf-none, setOf-same}
 
 -- tests that agree
-pub some-same : (p q : ℕ → Bool) (n : ℕ) → ((j : ℕ) → j < n → p j ≡ q j) → someBelow p n ≡ someBelow q n
+some-same : (p q : ℕ → Bool) (n : ℕ) → ((j : ℕ) → j < n → p j ≡ q j) → someBelow p n ≡ someBelow q n
 some-same p q zero h = refl
 some-same p q (suc n) h = rw (h n (omega arith), some-same p q n (λ j l. h j (omega arith)))
 
@@ -38,7 +38,7 @@ some-cut p q n (suc w) l h past =
 
 -- ONE CLUSTER MORE
 
-pub below-next : (x k : ℕ) → ltb x (suc k) ≡ eqb x k || ltb x k
+below-next : (x k : ℕ) → ltb x (suc k) ≡ eqb x k || ltb x k
 below-next x k =
     by-test (eqb x k)
     (λ e. rw (e, lt-ltb x (suc k) (omega (arith, eqb-true x k e))))

@@ -66,7 +66,7 @@ module _ {rank : Rank} (order : StrictTotal rank) {m : ℕ} {p : ℕ → Bool} {
 
 module _ (ps : List ℕ) (s m : ℕ) (word : s < 2 ^ maxClients) where
   -- the first m are m
-  pub first-full : m ≤ countOf s → countOf (lessOf s (pastOf s m)) ≡ m
+  first-full : m ≤ countOf s → countOf (lessOf s (pastOf s m)) ≡ m
   first-full few =
       let whole = count-lessOf s (pastOf s m) (past-in s word m) in
       let gone = past-count s word m few in

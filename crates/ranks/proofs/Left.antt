@@ -14,7 +14,7 @@ use Rattle.sets.proofs.Walks.{still-in}
 use Rattle.ranks.specs.Ranks.{pastOf}
 
 module _ (s : ℕ) (word : s < 2 ^ maxClients) where
-  pub past-word : (m : ℕ) → pastOf s m < 2 ^ maxClients
+  past-word : (m : ℕ) → pastOf s m < 2 ^ maxClients
   unfolding pastOf
   past-word zero = word
   past-word (suc m) = setOf-below maxClients _

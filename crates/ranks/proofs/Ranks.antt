@@ -80,7 +80,7 @@ highest-none rank p (suc n) h = rw (h n (omega arith)) (highest-none rank p n (�
 
 module _ (rank : Rank) (p q : ℕ → Bool) where
   -- tests that agree below n find the same
-  pub highest-same : (n : ℕ) → ((i : ℕ) → i < n → p i ≡ q i) → highest rank p n ≡ highest rank q n
+  highest-same : (n : ℕ) → ((i : ℕ) → i < n → p i ≡ q i) → highest rank p n ≡ highest rank q n
   highest-same zero h = refl
   highest-same (suc n) h = rw (h n (omega arith), highest-same n (λ i l. h i (omega arith)))
 

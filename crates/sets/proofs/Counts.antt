@@ -77,7 +77,7 @@ count-less p q n c h b e f =
     omega (arith, more, one)
 
 -- those who pass the one test and not the other, which is within it, and those who pass the other
-pub count-parts : (p q : ℕ → Bool) (n : ℕ) → ((x : ℕ) → x < n → q x ≡ true → p x ≡ true)
+count-parts : (p q : ℕ → Bool) (n : ℕ) → ((x : ℕ) → x < n → q x ≡ true → p x ≡ true)
     → countBelow (λ x. p x && not (q x)) n + countBelow q n ≡ countBelow p n
 count-parts p q zero h = refl
 count-parts p q (suc n) h =
@@ -115,7 +115,7 @@ some-in zero m h = absurd (not-suc-le-zero (subst (λ x. m < x) count-none h))
 some-in (suc s) m h = zero-lt-suc s
 
 -- nor is a set that has a member
-pub has-some : (s c : ℕ) → member s c ≡ true → 0 < s
+has-some : (s c : ℕ) → member s c ≡ true → 0 < s
 has-some zero c e = clash e (member-none c)
 has-some (suc s) c e = zero-lt-suc s
 

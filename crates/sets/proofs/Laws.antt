@@ -6,10 +6,9 @@ use mathlib.Core.Bool.{Bool, true, false, cond}
 use mathlib.Core.Logic.{_⊎_, inl, inr, ⊎-elim, by-cases}
 use native.Mathlib.Nat.{div-add-mod', eq-or-lt-of-le, le-of-suc-le-suc, lt-of-lt-of-le, not-suc-le-zero}
 use native.Mathlib.Nat.{pow-suc, zero-lt-suc}
-use native.Mathlib.Decide.{ℕ-discrete, decLt}
-use native.Mathlib.Numerals.{add-one}
+use native.Mathlib.Decide.{decLt}
 use native.Mathlib.Omega.{arith}
-use borrow.Author.Tests.{eq-eqb, ne-eqb}
+use borrow.Author.Tests.{ne-eqb}
 use lib.Dec.{eqb}
 use lib.Pow.{pow-mono, pow-pos}
 use Rattle.rules.specs.Lists.{upd}
@@ -100,31 +99,6 @@ setOf-upd-past n p c b h = setOf-same n _ _ (λ j l. rw (ne-eqb j c (λ e. omega
 
 pub member-upd-past : (n s c : ℕ) (b : Bool) → s < 2 ^ n → n ≤ c → setOf n (upd (member s) c b) ≡ s
 member-upd-past n s c b h l = setOf-upd-past n (member s) c b l ∙ setOf-member n s h
-
--- A SET MADE NUMBER BY NUMBER
-
--- one number more to choose from: the others are members as before
-others : (n : ℕ) (p : ℕ → Bool) (j : ℕ) → (j ≡ n → ⊥) → member (setOf (suc n) p) j ≡ member (setOf n p) j
-unfolding setOf
-others n p j d =
-    by-cases (decLt j n) (λ l. member-below (p n) n (setOf n p) j l) λ l.
-    member-setOf-past (suc n) p j (omega arith) ∙ sym (member-setOf-past n p j (omega arith))
-
--- the next number joins if it passes the test, in a word of w bits that has room for it; else it is skipped
-pub setOf-more :
-    (w n : ℕ) (p : ℕ → Bool) → n < w → p n ≡ true → setOf w (upd (member (setOf n p)) n true) ≡ setOf (n + 1) p
-setOf-more w n p h e =
-    rw (add-one n)
-    (sym
-    (is-setOf w (setOf (suc n) p) (upd (member (setOf n p)) n true)
-    (setOf-word (suc n) w p h) λ j l.
-    by-cases (ℕ-discrete j n)
-    (λ q. rw (q, eq-eqb n n refl, member-setOf (suc n) p n (omega arith)) e)
-    (λ d. rw (ne-eqb j n d) (others n p j d))))
-
-pub setOf-skip : (n : ℕ) (p : ℕ → Bool) → p n ≡ false → setOf n p ≡ setOf (n + 1) p
-unfolding setOf
-setOf-skip n p e = rw (add-one n, e) (omega arith)
 
 -- NONE
 

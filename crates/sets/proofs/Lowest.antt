@@ -51,7 +51,7 @@ and-odd s e =
     and-step s (s - 1) ∙ rw (d, m, e, and-self (s / 2))
 
 -- the bits of a word and the word below it: all but the lowest
-pub rest-bits : (n s : ℕ) → s < 2 ^ n → 0 < s → (j : ℕ)
+rest-bits : (n s : ℕ) → s < 2 ^ n → 0 < s → (j : ℕ)
     → member (bitAnd s (s - 1)) j ≡ upd (member s) (trailingZeros n s) false j
 unfolding trailingZeros
 rest-bits zero s h p j = let g : s < 1 = h in absurd (omega arith)
