@@ -1,2 +1,3 @@
 -- What the tests of presence stand on.
 pub mod Here
+pub mod Cases
