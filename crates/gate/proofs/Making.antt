@@ -1,10 +1,11 @@
 -- The gate that is made of a setup, accepted or refused.
 -- Assumes nothing.
-use mathlib.Core.Path.{_≡_, sym, ap, _∙_}
+use mathlib.Core.Path.{_≡_, sym, ap, _∙_, fun-ext}
 use mathlib.Core.Bool.{true, false}
 use lib.Dec.{eqb}
 use borrow.Author.Tests.{eq-eqb}
 use Rattle.rules.specs.Refusals.{accepted}
+use Rattle.rules.specs.Setup as rules
 use Rattle.rules.specs.Setup.{setupAnswer}
 use Rattle.rules.specs.State.{fresh}
 use Rattle.gate.specs.declared.Setup.{Setup}
@@ -12,6 +13,7 @@ use Rattle.gate.specs.declared.Gate.{Gate}
 use Rattle.gate.specs.declared.Verdict.{Verdict}
 use Rattle.gate.specs.Shown.{setupOf, shown}
 use Rattle.gate.specs.Made.{Told, told, verdictOf, trimmedIn, emptyBytes, emptyGate, freshGate, madeOf, made}
+use Rattle.gate.proofs.Zeros.{zeros-at}
 
 module _ (s : Setup) (v : Verdict) (g : Gate) (e : told v ≡ verdictOf (setupOf s)) where
   pub made-accepted : eqb (told v .number) accepted ≡ true → g ≡ shown (trimmedIn s) fresh
@@ -28,3 +30,14 @@ module _ (s : Setup) (v : Verdict) (g : Gate) (e : told v ≡ verdictOf (setupOf
 pub made-shown : (v : Setup) → setupAnswer (setupOf v) ≡ accepted → made v .gate ≡ shown (trimmedIn v) fresh
 unfolding made freshGate
 made-shown v a = rw (eq-eqb (setupAnswer (setupOf v)) accepted a)
+
+-- the bytes with zeros past N and K hold the rules' setup with zeros there
+pub trimmed-reads : (v : Setup) → setupOf (trimmedIn v) ≡ rules.trimmed (setupOf v)
+unfolding trimmedIn
+trimmed-reads v =
+    rw (
+      fun-ext (zeros-at (v .clusters) (v .sizes)),
+      fun-ext (zeros-at (v .clients) (v .kinds)),
+      fun-ext (zeros-at (v .clients) (v .homes)),
+      fun-ext (zeros-at (v .clients) (v .priorities)),
+    )

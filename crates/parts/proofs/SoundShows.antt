@@ -1,7 +1,7 @@
 -- A sound state of the rules has room in a gate's places; the fresh gate is sound.
 -- Assumes nothing.
 use Prim.Native.Nat.{ℕ, _≤_, _<_}
-use mathlib.Core.Path.{_≡_, refl, fun-ext}
+use mathlib.Core.Path.{_≡_, refl}
 use mathlib.Core.Bool.{true}
 use mathlib.Core.List.{List, [], map}
 use native.Mathlib.Omega.{arith}
@@ -10,7 +10,6 @@ use lib.ListN.{length, length-map}
 use borrow.Author.Tests.{ltb-true, ltb-false}
 use Rattle.rules.specs.Limits.{maxClusters, maxClients}
 use Rattle.rules.specs.Lists.{has, heads, Distinct}
-use Rattle.rules.specs.Setup as rules
 use Rattle.rules.specs.Setup.{Accepted, Trimmed}
 use Rattle.rules.specs.State as state
 use Rattle.rules.specs.State.{State, idle, front, best, spent, fresh}
@@ -27,7 +26,7 @@ use Rattle.gate.specs.declared.Setup.{Setup}
 use Rattle.gate.specs.Shown.{setupOf, serverOf, stateOf, showServer, shown}
 use Rattle.parts.specs.Shows.{Fine, ServerFits, Shows, Within}
 use Rattle.gate.specs.Made.{trimmedIn}
-use Rattle.gate.proofs.Zeros.{zeros-at}
+use Rattle.gate.proofs.Making.{trimmed-reads}
 use Rattle.parts.proofs.Reading.{state-back}
 
 pub server-back : (x : state.Server) → serverOf (showServer x) ≡ x
@@ -136,17 +135,6 @@ module _ (v : Setup) where
     sound-back = state-back v s (shown v s) sound-shows sound-within
 
 -- THE FRESH GATE
-
--- the bytes with zeros past N and K hold the rules' setup with zeros there
-pub trimmed-reads : (v : Setup) → setupOf (trimmedIn v) ≡ rules.trimmed (setupOf v)
-unfolding trimmedIn
-trimmed-reads v =
-    rw (
-      fun-ext (zeros-at (v .clusters) (v .sizes)),
-      fun-ext (zeros-at (v .clients) (v .kinds)),
-      fun-ext (zeros-at (v .clients) (v .homes)),
-      fun-ext (zeros-at (v .clients) (v .priorities)),
-    )
 
 pub fresh-sound : (v : Setup) → Accepted (setupOf v) → Sound (setupOf (trimmedIn v)) fresh
 fresh-sound v a = rw (trimmed-reads v) (every-state-sound (setupOf v) a [])

@@ -53,6 +53,7 @@ pub mod Reached
 pub mod Limit
 pub mod Bounded
 pub mod Replays
+pub mod Records
 -- all waits of a client, and the quote
 pub mod Waits
 pub mod Budgets

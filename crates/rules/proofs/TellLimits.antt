@@ -10,7 +10,7 @@ use Rattle.rules.specs.Limits.{maxWork, maxPeriod, maxLines, maxCalls}
 use Rattle.rules.specs.Refusals.{accepted, badClusters, noCap, manyClients, badSize, badRow, noClient}
 use Rattle.rules.specs.Refusals.{waitsAlready, serverIdle, runOfNone, runPastCap, notWaiting, bestEffort}
 use Rattle.rules.specs.Refusals.{spentAlready, unknownRecord, unsound, logShort, badMark, badVersion, logCut}
-use Rattle.rules.specs.Refusals.{logLong, fieldOut, overPeriod, badLines}
+use Rattle.rules.specs.Refusals.{logLong, noRoom, fieldOut, overPeriod, badLines}
 use Rattle.rules.specs.Setup.{Setup, setupAnswer}
 use Rattle.rules.specs.Quote.{Order, orderOf, Quote, quote}
 use Rattle.rules.proofs.Table.{rt, be, given, Row}
@@ -26,9 +26,9 @@ limits-are = refl
 pub numbers-are :
     accepted ∷ badClusters ∷ noCap ∷ manyClients ∷ badSize ∷ badRow ∷ noClient ∷ waitsAlready ∷ serverIdle ∷
     runOfNone ∷ runPastCap ∷ notWaiting ∷ bestEffort ∷ spentAlready ∷ unknownRecord ∷ unsound ∷ logShort ∷ badMark ∷
-    badVersion ∷ logCut ∷ logLong ∷ fieldOut ∷ overPeriod ∷ badLines ∷ []
-    ≡ 0 ∷ 1 ∷ 2 ∷ 3 ∷ 4 ∷ 5 ∷ 10 ∷ 11 ∷ 12 ∷ 13 ∷ 14 ∷ 15 ∷ 16 ∷ 17 ∷ 18 ∷ 19 ∷ 20 ∷ 21 ∷ 22 ∷ 23 ∷ 24 ∷ 30 ∷ 31 ∷
-    32 ∷ []
+    badVersion ∷ logCut ∷ logLong ∷ noRoom ∷ fieldOut ∷ overPeriod ∷ badLines ∷ []
+    ≡ 0 ∷ 1 ∷ 2 ∷ 3 ∷ 4 ∷ 5 ∷ 10 ∷ 11 ∷ 12 ∷ 13 ∷ 14 ∷ 15 ∷ 16 ∷ 17 ∷ 18 ∷ 19 ∷ 20 ∷ 21 ∷ 22 ∷ 23 ∷ 24 ∷ 25 ∷ 30 ∷
+    31 ∷ 32 ∷ []
 numbers-are = refl
 
 -- SETUPS

@@ -92,6 +92,10 @@ logCut = 23
 abbrev pub logLong : ℕ
 logLong = 24
 
+-- the buffer has no room for the whole next item, or the log would pass 65,536 bytes
+abbrev pub noRoom : ℕ
+noRoom = 25
+
 -- OF AN ORDER
 
 -- a form field out of range
