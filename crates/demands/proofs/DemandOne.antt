@@ -44,7 +44,8 @@ use Rattle.log.specs.declared.Refusal.the-variants.{ManyClients, CutTables, Bad
 use Rattle.layout.specs.Tables.{setupIn}
 use Rattle.log.specs.Opening.{told, openingOf}
 use Rattle.layout.specs.Layout.{recordSize}
-use Rattle.report.specs.Report.{heading, entryLines, refusedLine, whole, recordsIn, lastLines, replayed, reportOf}
+use Rattle.log.specs.Reading.{whole, recordsIn}
+use Rattle.report.specs.Report.{heading, entryLines, refusedLine, lastLines, replayed, reportOf}
 use Rattle.quote.specs.declared.Answer as quoted
 use Rattle.quote.specs.declared.Answer.the-variants as quoted-as
 use Rattle.quote.specs.Told as quotes

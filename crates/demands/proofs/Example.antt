@@ -25,7 +25,7 @@ use Rattle.log.specs.declared.Refusal.the-variants.{Short}
 use Rattle.layout.specs.Tables.{setupIn}
 use Rattle.log.specs.Opening.{headOf, tablesOf, openingOf}
 use Rattle.layout.specs.Layout.{recordSize}
-use Rattle.report.specs.Report.{whole}
+use Rattle.log.specs.Reading.{whole}
 use Rattle.demands.specs.Histories.{chargeAfter}
 use Rattle.demands.proofs.DemandThree.{u, stored}
 

@@ -1,5 +1,5 @@
--- What the proofs of `log_report` share: a step, one record more, a log that opens, and its report.
+-- What the proofs of `log_report` share: a step, one record more, the charges, and the report.
 pub mod Entering
 pub mod Turns
-pub mod Opened
+pub mod Charges
 pub mod Reports

@@ -113,3 +113,15 @@ wrote-length {at} {text} {start} {out} {n} w h =
       length-drop (at + length text) start,
       w .ends,
     )
+
+-- what was written ends within the buffer
+pub wrote-ends : {at : ℕ} {text start out : List ℕ} {n : ℕ} → WroteAt at text start out n → at ≤ length start
+    → n ≤ length out
+wrote-ends {at} {text} {start} {out} {n} w h =
+    omega (
+      arith,
+      ap length (w .bytes) ∙ length-append (take at start ++ text) (drop (at + length text) start),
+      length-append (take at start) text,
+      length-take-le at start h,
+      w .ends,
+    )
