@@ -1,0 +1,2 @@
+-- What the writer of a log answers and leaves. Nothing is proved here.
+pub mod Writing
