@@ -1,11 +1,11 @@
--- The numbers of document 01 that each kind of thing can be answered with.
+-- The numbers of refusal that each kind of thing can be answered with.
 -- Assumes nothing.
 use Prim.Native.Nat.{ℕ}
 use mathlib.Core.List.{List, [], _∷_}
 use Rattle.rules.specs.Refusals.{accepted, badClusters, noCap, manyClients, badSize, badRow, noClient}
 use Rattle.rules.specs.Refusals.{waitsAlready, serverIdle, runOfNone, runPastCap, notWaiting, bestEffort}
 use Rattle.rules.specs.Refusals.{spentAlready, unknownRecord, unsound, logShort, badMark, badVersion, logCut}
-use Rattle.rules.specs.Refusals.{logLong, fieldOut, overPeriod, badLines}
+use Rattle.rules.specs.Refusals.{logLong, noRoom, fieldOut, overPeriod, badLines}
 
 -- 0, and 1 to 5
 abbrev pub ofSetup : List ℕ
@@ -21,6 +21,14 @@ ofEvent =
 abbrev pub ofLog : List ℕ
 ofLog =
     logShort ∷ badMark ∷ badVersion ∷ logCut ∷ logLong ∷ badClusters ∷ noCap ∷ manyClients ∷ badSize ∷ badRow ∷ []
+
+-- the writer's, for a setup: its own, and 25
+abbrev pub ofWrittenSetup : List ℕ
+ofWrittenSetup = noRoom ∷ ofSetup
+
+-- for a record: 0, 18 and 25
+abbrev pub ofWrittenRecord : List ℕ
+ofWrittenRecord = accepted ∷ unknownRecord ∷ noRoom ∷ []
 
 -- 0, and 30 to 32
 abbrev pub ofOrder : List ℕ

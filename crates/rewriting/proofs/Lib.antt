@@ -1,0 +1,8 @@
+-- What follows from the definitions, and logs that compute.
+pub mod Puts
+pub mod Texts
+pub mod ReadBack
+pub mod WriteBack
+pub mod Within
+pub mod Prints
+pub mod Cases
