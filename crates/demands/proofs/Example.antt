@@ -1,19 +1,21 @@
--- What the demands ask for is met: by a refused setup, by logs that are refused or cut, and by the gate of document
--- 01's own log, which reaches both bounds of demand 3.
+-- What the demands and the round trip ask for is met: by a refused setup, by logs that are refused or cut, and by the
+-- gate and the bytes of document 01's own log, which reaches both bounds of demand 3.
 -- Assumes nothing.
 use Prim.Native.Nat.{ℕ, _+_, _*_, _<_}
 use mathlib.Core.Path.{_≡_, refl, _∙_}
 use mathlib.Core.Bool.{false, true}
-use mathlib.Core.List.{List, [], _∷_, reverse}
+use mathlib.Core.List.{List, [], _∷_, map, reverse}
 use native.Mathlib.Omega.{arith}
-use lib.ListN.{length}
-use Rattle.rules.specs.Refusals.{badClusters}
+use lib.ListN.{length, replicate}
+use Rattle.rules.specs.Refusals.{accepted, badClusters}
 use Rattle.rules.specs.Setup.{Accepted, realTime, setupAnswer}
+use Rattle.rules.specs.State.{fresh}
 use Rattle.rules.specs.Rank.{outranks}
 use Rattle.rules.specs.Queues.{refill, queue, pick}
 use Rattle.rules.specs.Events.{invoked, ran, replied, aborted}
 use Rattle.rules.specs.Step.{answer, next, step}
 use Rattle.rules.specs.Records.{eventOf}
+use Rattle.rules.specs.Replay.{entriesFrom}
 use Rattle.rules.specs.History.{struck}
 use Rattle.rules.specs.Demands.{worst, worstUnstruck}
 use Rattle.rules.proofs.Cases.{logSetup, logRecords, quietRecords}
@@ -25,8 +27,11 @@ use Rattle.log.specs.declared.Refusal.the-variants.{Short}
 use Rattle.layout.specs.Tables.{setupIn}
 use Rattle.log.specs.Opening.{headOf, tablesOf, openingOf}
 use Rattle.layout.specs.Layout.{recordSize}
+use Rattle.layout.specs.Log.{Sized, setupBytes}
 use Rattle.log.specs.Reading.{whole}
-use Rattle.demands.specs.Histories.{chargeAfter}
+use Rattle.writing.specs.Writing.{itemPut, setupPut}
+use Rattle.rewriting.specs.Sequence.{recordsPut, logPut}
+use Rattle.demands.specs.Histories.{chargeAfter, NoneUnknown}
 use Rattle.demands.proofs.DemandThree.{u, stored}
 
 -- DEMAND 1
@@ -54,8 +59,8 @@ cut-short e = omega (arith, e)
 
 -- DEMAND 3: THE LOG OF DOCUMENT 01
 
-abbrev pub logBytes : Setup
-logBytes = record {
+abbrev pub logHeld : Setup
+logHeld = record {
   clusters = logSetup .clusters;
   clients = logSetup .clients;
   cap = logSetup .cap;
@@ -65,28 +70,44 @@ logBytes = record {
   priorities = table 64 (logSetup .priority);
 }
 
-pub bytes-accepted : Accepted (setupOf logBytes)
+pub bytes-accepted : Accepted (setupOf logHeld)
 unfolding setupAnswer table
 bytes-accepted = record { no-refusal = refl; sixteen-bits = omega arith }
 
-pub client-real : realTime (u logBytes bytes-accepted) 1 ≡ true
+pub client-real : realTime (u logHeld bytes-accepted) 1 ≡ true
 unfolding table trimmedIn zeroPast
 client-real = refl
 
-pub client-known : 1 < u logBytes bytes-accepted .clients
+pub client-known : 1 < u logHeld bytes-accepted .clients
 unfolding trimmedIn
 client-known = omega arith
 
 -- m = 1, K = 1, L = 10: the gate has charged client 1 with (2 + 2)10 after the log ..
-pub reached : chargeAfter (made logBytes .gate) (reverse logRecords) 1 ≡ worst 1 1 10
+pub reached : chargeAfter (made logHeld .gate) (reverse logRecords) 1 ≡ worst 1 1 10
 unfolding table trimmedIn zeroPast eventOf answer next step outranks refill queue pick invoked ran replied aborted
-reached = stored logBytes bytes-accepted (reverse logRecords) 1 (omega arith) ∙ refl
+reached = stored logHeld bytes-accepted (reverse logRecords) 1 (omega arith) ∙ refl
 
 -- .. and with (1 + 2)10 where nobody is aborted.
-pub not-struck : struck (u logBytes bytes-accepted) 1 (reverse quietRecords) ≡ false
+pub not-struck : struck (u logHeld bytes-accepted) 1 (reverse quietRecords) ≡ false
 unfolding table trimmedIn zeroPast eventOf answer next step outranks refill queue pick invoked ran replied aborted
 not-struck = refl
 
-pub reached-unstruck : chargeAfter (made logBytes .gate) (reverse quietRecords) 1 ≡ worstUnstruck 1 1 10
+pub reached-unstruck : chargeAfter (made logHeld .gate) (reverse quietRecords) 1 ≡ worstUnstruck 1 1 10
 unfolding table trimmedIn zeroPast eventOf answer next step outranks refill queue pick invoked ran replied aborted
-reached-unstruck = stored logBytes bytes-accepted (reverse quietRecords) 1 (omega arith) ∙ refl
+reached-unstruck = stored logHeld bytes-accepted (reverse quietRecords) 1 (omega arith) ∙ refl
+
+-- THE ROUND TRIP: THE SAME LOG
+
+-- its tables have their sizes, it is written into 65 bytes, each record of it, and none is answered 18
+pub log-sized : Sized logHeld
+unfolding table
+log-sized = record { sizes = refl; kinds = refl; homes = refl; priorities = refl; cap = omega arith }
+
+pub log-written : logPut logHeld (map eventOf logRecords) (replicate 65 0) .told .number ≡ accepted
+unfolding logPut recordsPut setupPut itemPut setupBytes verdictOf setupAnswer table eventOf
+log-written = refl
+
+pub log-known : NoneUnknown (setupOf logHeld) fresh logRecords
+unfolding entriesFrom table eventOf answer next step outranks refill queue pick invoked ran replied aborted
+log-known =
+    (refl, (refl, (refl, (refl, (refl, (refl, (refl, (refl, (refl, (refl, (refl, (refl, (refl, tt)))))))))))))

@@ -2,23 +2,19 @@
 -- written, and that writing what was read gives the same bytes. Assumes nothing.
 use Prim.Native.Nat.{ℕ, _+_, _*_, _≤_}
 use mathlib.Core.Path.{_≡_, refl}
-use mathlib.Core.Bool.{true, not, _||_, cond}
-use mathlib.Core.List.{List, map}
+use mathlib.Core.Bool.{true, not, cond}
+use mathlib.Core.List.{List, [], _∷_, map}
 use mathlib.Core.Option.{Option, some, none}
-use native.Mathlib.Omega.{arith}
-use lib.Dec.{eqb, ltb, leb}
+use lib.Dec.{eqb}
 use lib.ListN.{length, take}
 use Rattle.rules.specs.Lists.{has}
-use Rattle.rules.specs.Refusals.{accepted, noClient, waitsAlready, serverIdle, runOfNone, runPastCap, notWaiting}
-use Rattle.rules.specs.Refusals.{bestEffort, spentAlready, unknownRecord, unsound, noRoom}
+use Rattle.rules.specs.Refusals.{accepted, unknownRecord, noRoom}
 use Rattle.rules.specs.Setup as rules
-use Rattle.rules.specs.Setup.{realTime}
-use Rattle.rules.specs.State.{State, isIdle, isSpent}
-use Rattle.rules.specs.Queues.{waits}
-use Rattle.rules.specs.Events.{Event, invoke, run, reply, abort}
-use Rattle.rules.specs.Step.{present, overcharges, answer}
-use Rattle.rules.specs.Records.{recordOf, answerOf}
-use Rattle.rules.proofs.Tests.{by-test, not-given}
+use Rattle.rules.specs.State.{State, fresh}
+use Rattle.rules.specs.Events.{Event}
+use Rattle.rules.specs.Records.{Record, eventOf, recordOf, answerOf, stepOf}
+use Rattle.rules.specs.Replay.{entriesFrom}
+use Rattle.rules.proofs.Tests.{by-test, clash}
 use Rattle.rules.proofs.Lists.{has-tail}
 use Rattle.gate.specs.declared.Setup.{Setup}
 use Rattle.gate.specs.Shown.{setupOf}
@@ -35,11 +31,12 @@ use Rattle.log.proofs.Again.{log-again}
 use Rattle.writing.specs.declared.Answer.the-variants.{Written, NoRoom}
 use Rattle.writing.specs.Writing.{told, lacksRoom, itemPut, setupPut, heardPut}
 use Rattle.rewriting.specs.Sequence.{logPut}
-use Rattle.rewriting.specs.RoundTrip.{ReadBack, AllBytes, writtenUpTo}
+use Rattle.rewriting.specs.RoundTrip.{ReadBack, AllBytes, lastAnswer, writtenUpTo}
 use Rattle.rewriting.specs.Printed.{printedOf, textOf}
 use Rattle.rewriting.proofs.ReadBack.{writes-log, read-back}
 use Rattle.rewriting.proofs.WriteBack.{write-back, write-back-whole}
 use Rattle.rewriting.proofs.Prints.{printed-text}
+use Rattle.demands.specs.Histories.{NoneUnknown}
 use Rattle.demands.specs.Numbers.{ofSetup, ofWrittenSetup, ofWrittenRecord}
 use Rattle.demands.proofs.DemandOne.{setup-number}
 
@@ -93,8 +90,8 @@ write-record-number (some e) used out =
 
 -- WRITER AND READER MEET IN THE BYTES OF A LOG
 
--- Where no write was refused, the buffer begins with the bytes of the log of the setup and the events; behind them it is
--- as it was.
+-- Where no write was refused, the buffer begins with the bytes of the log of the setup and the events; behind them it
+-- is as it was.
 pub writer-writes : (v : Setup) (es : List Event) (out : List ℕ) → logPut v (map some es) out .told .number ≡ accepted
     → (logPut v (map some es) out .used ≡ length (logBytes v (map recordOf es)))
     × (logPut v (map some es) out .bytes ≡ written out 0 (logBytes v (map recordOf es)))
@@ -116,46 +113,33 @@ written-is-read = read-back
 
 -- WRITTEN AGAIN
 
+-- where no record is answered 18, each has an event
+all-known : (u : rules.Setup) (s : State) (rs : List Record) → NoneUnknown u s rs
+    → lastAnswer (map eventOf rs) ≡ Written
+unfolding entriesFrom
+all-known u s [] h = refl
+all-known u s (r ∷ rs) h = by-event (eventOf r) (h .0) (all-known u (stepOf u s (eventOf r)) rs (h .1))
+  where
+    by-event : (o : Option Event) → not (eqb (answerOf u s o) unknownRecord) ≡ true
+        → lastAnswer (map eventOf rs) ≡ Written → lastAnswer (o ∷ map eventOf rs) ≡ Written
+    by-event none e next = clash e refl
+    by-event (some x) e next = next
+
 module _ (l out : List ℕ) (bytes : AllBytes l) (fits : length l ≤ length out) (start : ℕ)
     (o : openingOf l ≡ Records start) where
-  -- Writing what was read gives the same bytes, for every log that is accepted and in which every record has a form.
-  pub read-is-written : start + recordSize * whole l start ≡ length l → (es : List Event)
-      → eventsIn l start ≡ map some es
-      → logPut (setupIn l) (map some es) out
+  -- Writing what was read gives the same bytes, for every log that is accepted, to its end, and in which no record is
+  -- answered 18.
+  pub read-is-written : start + recordSize * whole l start ≡ length l
+      → NoneUnknown (setupOf (setupIn l)) fresh (recordsIn l start)
+      → logPut (setupIn l) (eventsIn l start) out
       ≡ record { told = told Written; used = length l; bytes = written out 0 l }
-  read-is-written = write-back-whole l out bytes fits start o
+  read-is-written uncut h =
+      write-back-whole l out bytes fits start o uncut
+      (all-known (setupOf (setupIn l)) fresh (recordsIn l start) h)
 
-  -- A log is written up to the first of its records that has none, which is answered 18.
+  -- A log is written up to the first of its records that is no event. That record is answered 18.
   pub read-is-written-up-to : logPut (setupIn l) (eventsIn l start) out ≡ writtenUpTo l start out
   read-is-written-up-to = write-back l out bytes fits start o
-
--- A record has no form exactly if the gate answers it 18.
-pub answered-unknown : (u : rules.Setup) (s : State) (o : Option Event) → answerOf u s o ≡ unknownRecord → o ≡ none
-unfolding answer
-answered-unknown u s none h = refl
-answered-unknown u s (some (invoke c)) h =
-    let a = not-given (leb (u .clients) c) noClient _ unknownRecord (λ q. omega arith) h in
-    let b = not-given (present u s c) waitsAlready accepted unknownRecord (λ q. omega arith) (a .1) in
-    absurd (omega (arith, b .1))
-answered-unknown u s (some (run n)) h =
-    let a = not-given (eqb n 0) runOfNone _ unknownRecord (λ q. omega arith) h in
-    let b = not-given (isIdle (s .server)) serverIdle _ unknownRecord (λ q. omega arith) (a .1) in
-    let d = not-given (ltb (u .cap) (s .units + n)) runPastCap _ unknownRecord (λ q. omega arith) (b .1) in
-    let e = not-given (overcharges u s n) unsound accepted unknownRecord (λ q. omega arith) (d .1) in
-    absurd (omega (arith, e .1))
-answered-unknown u s (some reply) h =
-    let a = not-given (isIdle (s .server)) serverIdle accepted unknownRecord (λ q. omega arith) h in
-    absurd (omega (arith, a .1))
-answered-unknown u s (some (abort c)) h =
-    let a = not-given (leb (u .clients) c) noClient _ unknownRecord (λ q. omega arith) h in
-    let b = not-given (not (realTime u c)) bestEffort _ unknownRecord (λ q. omega arith) (a .1) in
-    let d = not-given (not (waits u s c || isSpent (s .server) c)) notWaiting _ unknownRecord (λ q. omega arith)
-    (b .1) in
-    let e = not-given (isSpent (s .server) c) spentAlready accepted unknownRecord (λ q. omega arith) (d .1) in
-    absurd (omega (arith, e .1))
-
-pub unknown-answered : (u : rules.Setup) (s : State) → answerOf u s none ≡ unknownRecord
-unknown-answered u s = refl
 
 -- THE PROGRAM THAT DOES BOTH
 

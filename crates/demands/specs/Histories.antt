@@ -1,10 +1,17 @@
--- A gate after a history of raw records, refused ones among them, each by the promise of the public step. The latest
--- record stands first.
+-- A gate after a history of raw records, refused ones among them, each by the promise of the public step, the latest
+-- record first; and what the records of a log are not answered.
 -- Assumes nothing.
 use Prim.Native.Nat.{ℕ}
-use mathlib.Core.List.{List, [], _∷_}
+use mathlib.Core.Bool.{not}
+use mathlib.Core.List.{List, [], _∷_, map}
+use lib.Dec.{eqb}
 use lib.ListN.{getD}
+use Rattle.rules.specs.Refusals.{unknownRecord}
+use Rattle.rules.specs.Setup.{Setup}
+use Rattle.rules.specs.State.{State}
 use Rattle.rules.specs.Records.{Record, eventOf}
+use Rattle.rules.specs.Replay.{Entry, entriesFrom}
+use Rattle.rules.specs.Quote.{AllTrue}
 use Rattle.gate.specs.declared.Gate.{Gate}
 use Rattle.step.specs.Stepped.{stepped}
 
@@ -19,3 +26,7 @@ answerAfter g h r = stepped (gateAfter g h) (eventOf r) .number
 -- the charge that the gate stores for a client
 abbrev pub chargeAfter : Gate → List Record → ℕ → ℕ
 chargeAfter g h c = getD (gateAfter g h .charges) c 0
+
+-- No record that is replayed, from a state on, is answered 18.
+abbrev pub NoneUnknown : Setup → State → List Record → Type 0
+NoneUnknown u s rs = AllTrue (map (λ (e : Entry). not (eqb (e .answer) unknownRecord)) (entriesFrom u s rs))
