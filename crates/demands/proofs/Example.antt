@@ -30,7 +30,7 @@ use Rattle.layout.specs.Layout.{recordSize}
 use Rattle.layout.specs.Log.{Sized, setupBytes}
 use Rattle.log.specs.Reading.{whole}
 use Rattle.writing.specs.Writing.{itemPut, setupPut}
-use Rattle.rewriting.specs.Sequence.{recordsPut, logPut}
+use Rattle.rewriting.specs.Sequence.{onwards, logPut}
 use Rattle.demands.specs.Histories.{chargeAfter, NoneUnknown}
 use Rattle.demands.proofs.DemandThree.{u, stored}
 
@@ -104,7 +104,7 @@ unfolding table
 log-sized = record { sizes = refl; kinds = refl; homes = refl; priorities = refl; cap = omega arith }
 
 pub log-written : logPut logHeld (map eventOf logRecords) (replicate 65 0) .told .number ≡ accepted
-unfolding logPut recordsPut setupPut itemPut setupBytes verdictOf setupAnswer table eventOf
+unfolding logPut onwards setupPut itemPut setupBytes verdictOf setupAnswer table eventOf
 log-written = refl
 
 pub log-known : NoneUnknown (setupOf logHeld) fresh logRecords

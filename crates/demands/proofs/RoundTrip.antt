@@ -2,7 +2,7 @@
 -- written, and that writing what was read gives the same bytes. Assumes nothing.
 use Prim.Native.Nat.{ℕ, _+_, _*_, _≤_}
 use mathlib.Core.Path.{_≡_, refl}
-use mathlib.Core.Bool.{true, not, cond}
+use mathlib.Core.Bool.{true, not}
 use mathlib.Core.List.{List, [], _∷_, map}
 use mathlib.Core.Option.{Option, some, none}
 use lib.Dec.{eqb}
@@ -28,8 +28,9 @@ use Rattle.log.specs.Opening.{openingOf}
 use Rattle.log.specs.Reading.{whole, recordsIn, eventsIn}
 use Rattle.log.proofs.Openings.{opens}
 use Rattle.log.proofs.Again.{log-again}
-use Rattle.writing.specs.declared.Answer.the-variants.{Written, NoRoom}
-use Rattle.writing.specs.Writing.{told, lacksRoom, itemPut, setupPut, heardPut}
+use Rattle.writing.specs.declared.Answer.the-variants.{Written}
+use Rattle.writing.specs.Writing.{told, lacksRoom, setupPut, heardPut}
+use Rattle.writing.proofs.Room.{item-number, item-same}
 use Rattle.rewriting.specs.Sequence.{logPut}
 use Rattle.rewriting.specs.RoundTrip.{ReadBack, AllBytes, lastAnswer, writtenUpTo}
 use Rattle.rewriting.specs.Printed.{printedOf, textOf}
@@ -41,12 +42,6 @@ use Rattle.demands.specs.Numbers.{ofSetup, ofWrittenSetup, ofWrittenReco
 use Rattle.demands.proofs.DemandOne.{setup-number}
 
 -- WHAT A WRITE ANSWERS AND LEAVES
-
-item-same : (item : List ℕ) (used : ℕ) (out : List ℕ) → (itemPut item used out .told .number ≡ accepted → ⊥)
-    → (itemPut item used out .used ≡ used) × (itemPut item used out .bytes ≡ out)
-unfolding itemPut
-item-same item used out n =
-    by-test (lacksRoom (length item) used (length out)) (λ b. (rw b, rw b)) (λ b. absurd (n (rw b)))
 
 -- A refusal changes no byte, and no count of the bytes that are used: of a setup,
 pub refused-setup-same : (v : Setup) (out : List ℕ) → (setupPut v out .told .number ≡ accepted → ⊥)
@@ -63,12 +58,6 @@ pub refused-record-same : (o : Option Event) (used : ℕ) (out : List ℕ)
     → (heardPut o used out .used ≡ used) × (heardPut o used out .bytes ≡ out)
 refused-record-same none used out n = (refl, refl)
 refused-record-same (some e) used out n = item-same (recordBytes (recordOf e)) used out n
-
-item-number : (item : List ℕ) (used : ℕ) (out : List ℕ)
-    → itemPut item used out .told ≡ cond (lacksRoom (length item) used (length out)) (told NoRoom) (told Written)
-unfolding itemPut
-item-number item used out =
-    by-test (lacksRoom (length item) used (length out)) (λ b. rw b) (λ b. rw b)
 
 -- Each answer has its number: of a setup 0 to 5 or 25,
 pub write-setup-number : (v : Setup) (out : List ℕ) → has (setupPut v out .told .number) ofWrittenSetup ≡ true
