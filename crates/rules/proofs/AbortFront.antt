@@ -10,8 +10,9 @@ use lib.Dec.{eqb}
 use lib.ListN.{length}
 use borrow.Author.Tests.{eq-eqb, ne-eqb}
 use Rattle.rules.specs.Lists.{has, heads, remove}
-use Rattle.rules.specs.Setup.{Setup, service}
-use Rattle.rules.specs.State.{State, front, spent, isFront, blocks, withGlobal}
+use Rattle.rules.specs.Setup.{Setup, span}
+use Rattle.rules.specs.State.{State, front, spent, isFront, blocks}
+use Rattle.rules.specs.Changes.{withGlobal}
 use Rattle.rules.specs.Rank.{Rank}
 use Rattle.rules.specs.Queues.{join}
 use Rattle.rules.specs.Events.{abort, spend}
@@ -73,11 +74,11 @@ module _ (u : Setup) (rank : Rank) (c : ℕ) (s : State) (i : InOrder u s) where
               full = g .full;
               ordered = spent-ordered;
               rests = λ z. differ z refl;
-              units-fit = i .units-fit;
+              units-fit = rw e at (i .units-fit);
             };
             passes = left-passes u rank c s i l r g (spend c s) x f (strikesInRoom u x s (abort c) || f)
                 (front-shifts u rank c s i l r g (spend c s) first-now
-                (λ n. rw (eq-eqb (u .cluster c) (u .cluster c) refl) (omega arith)))
+                (λ n. rw (e, eq-eqb (u .cluster c) (u .cluster c) refl) (omega arith)))
                 (λ j n z. rw (e, ne-eqb (u .cluster c) j (λ q. n (sym q))) (omega arith))
                 refl
                 (λ z. both-false (strikesInRoom u x s (abort c)) f z .1)
@@ -103,7 +104,7 @@ module _ (u : Setup) (rank : Rank) (c : ℕ) (s : State) (i : InOrder u s) where
                 (λ z.
                 let a = ahead-le u (put l r (withGlobal q s)) (u .cluster c) now z in
                 omega (arith, a, extra-le u s (u .cluster c))))
-                (λ j w z. omega (arith, mul-le-mul-right (service u) (sooner j w z)))
+                (λ j w z. omega (arith, mul-le-mul-right (span u) (sooner j w z)))
                 refl h (λ y z. omega arith);
           }
         where

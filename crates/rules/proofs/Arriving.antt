@@ -7,7 +7,7 @@ use native.Mathlib.Omega.{arith}
 use lib.ListN.{length}
 use Rattle.rules.specs.Lists.{has}
 use Rattle.rules.specs.Setup.{Setup}
-use Rattle.rules.specs.State.{State, Server, idle, front, best, spent}
+use Rattle.rules.specs.State.{State, Server, idle, front, best, spent, tidying, capOf}
 use Rattle.rules.specs.Rank.{Rank}
 use Rattle.rules.specs.Sound.{Full}
 use Rattle.rules.specs.Queues.{waits, start, pick, pickIdle}
@@ -27,7 +27,7 @@ module _ (u : Setup) (c : ℕ) (s : State) where
     pub full : Full u (t .lines) (t .room)
     pub ordered : Ordered u allClusters (t .lines) (s .server) (t .global)
     pub same-server : t .server ≡ s .server
-    pub units-fit : t .units ≤ u .cap
+    pub units-fit : t .units ≤ capOf u (t .server)
     pub no-longer : (j : ℕ) → 0 < length (s .lines j) → ahead u t j ≤ ahead u s j
     pub same-extra : (j : ℕ) → extra u t j ≤ extra u s j
     pub same-charge : (x : ℕ) → (x ≡ c → ⊥) → t .charge x ≡ s .charge x
@@ -96,6 +96,7 @@ module _ (u : Setup) (ok : Valid u) (rank : Rank) (c : ℕ) (s : State) (i : InO
     picked-comes (front d) e = busy-comes (λ z. differ (sym e ∙ z) refl)
     picked-comes (best d) e = busy-comes (λ z. differ (sym e ∙ z) refl)
     picked-comes (spent d) e = busy-comes (λ z. differ (sym e ∙ z) refl)
+    picked-comes tidying e = busy-comes (λ z. differ (sym e ∙ z) refl)
 
   -- BEST-EFFORT
 

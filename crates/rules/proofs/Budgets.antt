@@ -1,48 +1,40 @@
--- The charges of all waits of a client: at most (2 + 2mK)L for each accepted invoke.
+-- The charges of all waits of a client: at most (2 + 2mK)S for each accepted invoke.
 -- Assumes nothing.
 use Prim.Native.Nat.{ℕ, suc, _+_, _*_, _≤_, _<_}
 use mathlib.Core.Path.{_≡_, refl}
 use mathlib.Core.Bool.{true, false}
 use mathlib.Core.List.{List, [], _∷_}
-use mathlib.Core.Option.{Option, some, none}
 use native.Mathlib.Omega.{arith}
 use lib.Dec.{eqb}
 use borrow.Author.Tests.{eqb-true, eqb-false}
 use Rattle.rules.specs.Refusals.{accepted}
-use Rattle.rules.specs.Setup.{Setup, Accepted, realTime, service}
+use Rattle.rules.specs.Setup.{Setup, Accepted, realTime, span}
 use Rattle.rules.specs.Rank.{outranks}
 use Rattle.rules.specs.Queues.{waits}
-use Rattle.rules.specs.Events.{Event, invoke, run, reply, abort, charged}
+use Rattle.rules.specs.Events.{Event, invoke, run, reply, abort, ready, charged}
 use Rattle.rules.specs.Step.{answer}
-use Rattle.rules.specs.Records.{Record, eventOf}
-use Rattle.rules.specs.History.{after, changed, begins, owes, owed, owesInAll, owedInAll}
-use Rattle.rules.specs.History.{callsAgain, calls, ends, waitsOn, waiting}
+use Rattle.rules.specs.History.{after, begins, owes, owed, owesInAll, owedInAll}
+use Rattle.rules.specs.History.{callsAgain, calls, ends, waiting}
 use Rattle.rules.specs.Demands.{worst}
 use Rattle.rules.proofs.Tests.{by-test, clash}
 use Rattle.rules.proofs.Ranking.{by-priority}
 use Rattle.rules.proofs.Run.{charged-facts}
-use Rattle.rules.proofs.Bounded.{bounded-by}
+use Rattle.rules.proofs.Bounded.{bounded-as-asked-by}
 use Rattle.rules.proofs.Waits.{waiting-waits}
 
 module _ (u : Setup) (ok : Accepted u) (c : ℕ) (real : realTime u c ≡ true) where
   -- who was never accepted with an invoke does not wait ..
-  uncalled : (h : List Record) → calls u c h ≡ 0 → waiting u c h ≡ false
+  uncalled : (h : List Event) → calls u c h ≡ 0 → waiting u c h ≡ false
   uncalled [] z = refl
-  uncalled (r ∷ h) z = go (eventOf r) (uncalled h) z
-    where
-      go : (o : Option Event) → (calls u c h ≡ 0 → waiting u c h ≡ false)
-          → changed u (callsAgain u c) (after u h) o (calls u c h) ≡ 0
-          → changed u (waitsOn u c) (after u h) o (waiting u c h) ≡ false
-      go none w z = w z
-      go (some e) w z =
-          by-test (eqb (answer u (after u h) e) accepted)
-          (λ a. by-test (begins u c e)
-          (λ b. let y : suc (calls u c h) ≡ 0 = rw (a, b) at z in absurd (omega arith))
-          (λ b. rw (a, b, w (rw (a, b) at z)) (by-test (ends u c (after u h) e) (λ q. rw q) (λ q. rw q))))
-          (λ a. rw a (w (rw a at z)))
+  uncalled (e ∷ h) z =
+      by-test (eqb (answer u (after u h) e) accepted)
+      (λ a. by-test (begins u c e)
+      (λ b. let y : suc (calls u c h) ≡ 0 = rw (a, b) at z in absurd (omega arith))
+      (λ b. rw (a, b, uncalled h (rw (a, b) at z)) (by-test (ends u c (after u h) e) (λ q. rw q) (λ q. rw q))))
+      (λ a. rw a (uncalled h (rw a at z)))
 
   -- .. and is not charged
-  uncharged : (h : List Record) → calls u c h ≡ 0 → charged u (outranks u (after u h)) (after u h) c ≡ false
+  uncharged : (h : List Event) → calls u c h ≡ 0 → charged u (outranks u (after u h)) (after u h) c ≡ false
   uncharged h z =
       by-test (charged u (outranks u (after u h)) (after u h) c)
       (λ e.
@@ -50,19 +42,19 @@ module _ (u : Setup) (ok : Accepted u) (c : ℕ) (real : realTime u c ≡ true) 
       clash (charged-facts u (outranks u (after u h)) (after u h) c e .waiting) w)
       (λ e. e)
 
-  -- (2 + 2mK)L
+  -- (2 + 2mK)S
   abbrev W : ℕ
-  W = worst (u .size (u .cluster c)) (u .clusters) (service u)
+  W = worst (u .size (u .cluster c)) (u .clusters) (span u)
 
-  within : (h : List Record) → owed u c h ≤ W
-  within h = bounded-by u ok (by-priority u) h c real
+  within : (h : List Event) → owed u c h ≤ W
+  within h = bounded-as-asked-by u ok (by-priority u) h c real
 
   -- all waits but the latest took at most W each
   record Covered (n total now : ℕ) : Type 0 where
     none : n ≡ 0 → total ≡ 0
     some : 0 < n → total + W ≤ n * W + now
 
-  event-covered : (h : List Record) (e : Event) (n total now : ℕ) → now ≤ W
+  event-covered : (h : List Event) (e : Event) (n total now : ℕ) → now ≤ W
       → (n ≡ 0 → charged u (outranks u (after u h)) (after u h) c ≡ false) → Covered n total now
       → Covered (callsAgain u c (after u h) e n) (owesInAll u c (after u h) e total) (owes u c (after u h) e now)
   event-covered h (invoke d) n total now b f i =
@@ -82,21 +74,18 @@ module _ (u : Setup) (ok : Accepted u) (c : ℕ) (real : realTime u c ≡ true) 
       record { none = λ z. omega (arith, i .none z); some = λ z. omega (arith, i .some z) }
   event-covered h (abort d) n total now b f i =
       record { none = λ z. omega (arith, i .none z); some = λ z. omega (arith, i .some z) }
+  event-covered h ready n total now b f i =
+      record { none = λ z. omega (arith, i .none z); some = λ z. omega (arith, i .some z) }
 
-  covered : (h : List Record) → Covered (calls u c h) (owedInAll u c h) (owed u c h)
+  covered : (h : List Event) → Covered (calls u c h) (owedInAll u c h) (owed u c h)
   covered [] = record { none = λ z. refl; some = λ z. absurd (omega arith) }
-  covered (r ∷ h) = go (eventOf r) (covered h)
-    where
-      go : (o : Option Event) → Covered (calls u c h) (owedInAll u c h) (owed u c h)
-          → Covered (changed u (callsAgain u c) (after u h) o (calls u c h))
-          (changed u (owesInAll u c) (after u h) o (owedInAll u c h)) (changed u (owes u c) (after u h) o (owed u c h))
-      go none i = i
-      go (some e) i =
-          by-test (eqb (answer u (after u h) e) accepted)
-          (λ a. rw a (event-covered h e (calls u c h) (owedInAll u c h) (owed u c h) (within h) (uncharged h) i))
-          (λ a. rw a i)
+  covered (e ∷ h) =
+      by-test (eqb (answer u (after u h) e) accepted)
+      (λ a. rw a
+      (event-covered h e (calls u c h) (owedInAll u c h) (owed u c h) (within h) (uncharged h) (covered h)))
+      (λ a. rw a (covered h))
 
-  pub covers : (h : List Record) → owedInAll u c h ≤ calls u c h * W
+  pub covers : (h : List Event) → owedInAll u c h ≤ calls u c h * W
   covers h =
       let i = covered h in
       by-test (eqb (calls u c h) 0)

@@ -3,23 +3,23 @@
 use Prim.Native.Nat.{ℕ}
 use mathlib.Core.Path.{_≡_, refl}
 use mathlib.Core.Bool.{cond, false, true}
-use mathlib.Core.List.{List, [], _∷_, map, reverse}
+use mathlib.Core.List.{List, [], _∷_, map}
 use mathlib.Core.Option.{some, none}
 use native.Mathlib.Omega.{arith}
 use lib.Dec.{eqb}
 use lib.IntN.{ℤ, pos, negℤ}
-use Rattle.rules.specs.Setup.{Setup, setupAnswer, service, Accepted}
+use Rattle.rules.specs.Setup.{Setup, setupAnswer, span, Accepted}
 use Rattle.rules.specs.State.{State, front}
 use Rattle.rules.specs.Rank.{outranks}
 use Rattle.rules.specs.Queues.{refill, queue, pick}
-use Rattle.rules.specs.Events.{run, invoked, ran, replied, aborted}
+use Rattle.rules.specs.Events.{run, invoked, ran, replied, aborted, readied}
 use Rattle.rules.specs.Step.{answer, next, step}
 use Rattle.rules.specs.Records.{Record, eventOf}
 use Rattle.rules.specs.Replay.{replayFrom, entriesFrom}
 use Rattle.rules.specs.History.{owed, struck}
 use Rattle.rules.specs.Demands.{worst, worstUnstruck}
 use Rattle.rules.specs.Quote.{Order, orderOf, Quote, quote}
-use Rattle.rules.proofs.Table.{rt, be, given, invokes, runs, replies, aborts}
+use Rattle.rules.proofs.Table.{rt, be, given, invokes, runs, replies, aborts, past}
 use Rattle.rules.proofs.Table.{Case, caseOf, Shown, got, wanted}
 
 -- WHAT A CASE ASKS
@@ -41,9 +41,9 @@ abbrev pub wantedAt : Edge → Outcome
 wantedAt (gate t) = shown (wanted t)
 wantedAt (order o q) = quoted q
 
--- own work e, period p, m and K, and one server line of calls N and cap L
+-- own work e, period p, m and K, and one server line of calls N and cap L, with W = 0
 abbrev pub oneLine : ℕ → ℕ → ℕ → ℕ → ℕ → ℤ → Order
-oneLine e p m K n l = orderOf (pos e) (pos p) (pos m) (pos K) (pos n ∷ []) (l ∷ [])
+oneLine e p m K n l = orderOf (pos e) (pos p) (pos m) (pos K) (pos n ∷ []) (l ∷ []) (pos 0 ∷ [])
 
 -- THE LOG
 
@@ -96,7 +96,7 @@ cases =
 
 pub cases-hold : map gotAt cases ≡ map wantedAt cases
 unfolding cases setupAnswer quote entriesFrom replayFrom eventOf answer next step
-    outranks refill queue pick invoked ran replied aborted
+    outranks refill queue pick invoked ran replied aborted readied
 cases-hold = refl
 
 -- WHAT THE LOG SHOWS
@@ -104,23 +104,23 @@ cases-hold = refl
 -- The log's setup is accepted, so what is proved of accepted setups is not empty.
 pub log-accepted : Accepted logSetup
 unfolding setupAnswer
-log-accepted = record { no-refusal = refl; sixteen-bits = omega arith }
+log-accepted = record { no-refusal = refl; sixteen-bits = omega arith; tidy-bits = omega arith }
 
 -- By the sum over the history, client 1 is charged 40, which equals (2 + 2)10 ..
-pub owed-log : owed logSetup 1 (reverse logRecords) ≡ 40
-unfolding eventOf answer next step outranks refill queue pick invoked ran replied aborted
+pub owed-log : owed logSetup 1 (past logSetup logRecords) ≡ 40
+unfolding eventOf answer next step outranks refill queue pick invoked ran replied aborted readied
 owed-log = refl
 
-pub worst-log : worst (logSetup .size 0) (logSetup .clusters) (service logSetup) ≡ 40
+pub worst-log : worst (logSetup .size 0) (logSetup .clusters) (span logSetup) ≡ 40
 worst-log = refl
 
 -- .. while (1 + 2)10 would be 30 ..
-pub worstUnstruck-log : worstUnstruck (logSetup .size 0) (logSetup .clusters) (service logSetup) ≡ 30
+pub worstUnstruck-log : worstUnstruck (logSetup .size 0) (logSetup .clusters) (span logSetup) ≡ 30
 worstUnstruck-log = refl
 
 -- .. and an abort did hit the request of its cluster in service while it waited.
-pub struck-log : struck logSetup 1 (reverse logRecords) ≡ true
-unfolding eventOf answer next step outranks refill queue pick invoked ran replied aborted
+pub struck-log : struck logSetup 1 (past logSetup logRecords) ≡ true
+unfolding eventOf answer next step outranks refill queue pick invoked ran replied aborted readied
 struck-log = refl
 
 -- WITHOUT AN ABORT
@@ -130,13 +130,13 @@ struck-log = refl
 abbrev pub quietRecords : List Record
 quietRecords = invokes 3 ∷ invokes 2 ∷ invokes 1 ∷ runs 10 ∷ replies ∷ runs 10 ∷ replies ∷ runs 10 ∷ []
 
-pub struck-quiet : struck logSetup 1 (reverse quietRecords) ≡ false
-unfolding eventOf answer next step outranks refill queue pick invoked ran replied aborted
+pub struck-quiet : struck logSetup 1 (past logSetup quietRecords) ≡ false
+unfolding eventOf answer next step outranks refill queue pick invoked ran replied aborted readied
 struck-quiet = refl
 
 -- Its charge is 30, so that the smaller bound is reached too.
-pub owed-quiet : owed logSetup 1 (reverse quietRecords) ≡ 30
-unfolding eventOf answer next step outranks refill queue pick invoked ran replied aborted
+pub owed-quiet : owed logSetup 1 (past logSetup quietRecords) ≡ 30
+unfolding eventOf answer next step outranks refill queue pick invoked ran replied aborted readied
 owed-quiet = refl
 
 -- AT THE CHARGE LIMIT
@@ -151,7 +151,7 @@ nearLimit = record {
   background = [];
   server = front 0;
   units = 0;
-  charge = λ (c : ℕ). cond (eqb c 0) 16777214 0;
+  charge = λ (c : ℕ). cond (eqb c 0) 33554430 0;
 }
 
 pub at-limit : answer logSetup nearLimit (run 1) ≡ 0

@@ -10,7 +10,7 @@ use lib.ListN.{length}
 use borrow.Author.Tests.{eqb-true, eqb-false, eq-eqb}
 use Rattle.rules.specs.Lists.{has, heads}
 use Rattle.rules.specs.Setup.{Setup}
-use Rattle.rules.specs.State.{State, Server, idle, front, best, spent, isFront, blocks}
+use Rattle.rules.specs.State.{State, Server, idle, front, best, spent, tidying, isFront, blocks}
 use Rattle.rules.specs.Rank.{Rank}
 use Rattle.rules.specs.Queues.{waits}
 use Rattle.rules.proofs.Tests.{by-test, clash}
@@ -29,6 +29,7 @@ caseOf idle = 0
 caseOf (front d) = 1
 caseOf (best d) = 2
 caseOf (spent d) = 3
+caseOf tidying = 4
 
 pub differ {ℓ} : {X : Type ℓ} {v w : Server} → v ≡ w → eqb (caseOf v) (caseOf w) ≡ false → X
 differ {v} {w} e n = clash (eq-eqb (caseOf v) (caseOf w) (ap caseOf e)) n
@@ -38,6 +39,7 @@ front-is idle c h = clash h refl
 front-is (front d) c h = ap front (eqb-true d c h)
 front-is (best d) c h = clash h refl
 front-is (spent d) c h = clash h refl
+front-is tidying c h = clash h refl
 
 module _ (u : Setup) where
   -- who is in the line waits
@@ -76,6 +78,24 @@ module _ (u : Setup) where
   pub record Goes (rank : Rank) (s s′ : State) (x : ℕ) (f f′ : Bool) : Type 0 where
     pub in-order : InOrder u s′
     pub passes : Passes u rank s s′ x f f′
+
+  -- nobody left its line; `t`: the state but for lines and rooms
+  pub same-passes : (rank : Rank) (s : State) → InOrder u s → (t : State) (x : ℕ) (f : Bool)
+      → ((j : ℕ) → 0 < length (s .lines j) → ahead u (put (s .lines) (s .room) t) j ≤ ahead u s j)
+      → t .charge ≡ s .charge
+      → (s .room x ≡ true → extra u (put (s .lines) (s .room) t) (u .cluster x) ≤ extra u s (u .cluster x))
+      → Passes u rank s (put (s .lines) (s .room) t) x f f
+  same-passes rank s i t x f a e z =
+      record {
+        falls = keeps (λ p n. omega arith) (a (u .cluster x));
+        same-charge = ap (λ n. n x) e;
+        no-return = λ r. r;
+        outranked = λ r d y w. clash y w;
+        waited = λ r d y. line-waits s d (rw (i .lined .line (u .cluster x) .home d y) y);
+        not-new = λ r y. y;
+        flags = λ h. h;
+        extras = λ r h. z r;
+      }
 
   -- c left its line and the highest of its room, if any, moved up; `t`: the state but for lines and rooms
   module _ (rank : Rank) (c : ℕ) (s : State) (i : InOrder u s) (l : ℕ → List ℕ) (r : ℕ → Bool)

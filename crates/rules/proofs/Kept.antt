@@ -6,14 +6,14 @@ use mathlib.Core.Bool.{Bool, true, false, not, cond}
 use native.Mathlib.Omega.{arith}
 use lib.Dec.{eqb}
 use Rattle.rules.specs.Lists.{has}
-use Rattle.rules.specs.Setup.{Setup, service}
+use Rattle.rules.specs.Setup.{Setup, service, span}
 use Rattle.rules.specs.State.{State}
 use Rattle.rules.specs.Rank.{Rank}
-use Rattle.rules.specs.Demands.{worst, worstUnstruck}
+use Rattle.rules.specs.Demands.{worst, reach, reachUnstruck}
 use Rattle.rules.proofs.Tests.{by-test}
 use Rattle.rules.proofs.Due.{last, last-le, last-same, due, due-full, unless-le}
 use Rattle.rules.proofs.InOrder.{InOrder}
-use Rattle.rules.proofs.Ahead.{ahead, ahead-le, extra, extra-le, round}
+use Rattle.rules.proofs.Ahead.{ahead, ahead-le, extra, extra-le, extra-short, round}
 
 -- x is c
 abbrev pub isIt : ℕ → ℕ → Bool
@@ -58,7 +58,7 @@ module _ (u : Setup) where
         }
       where
         small : extra u s (u .cluster c) ≤ service u
-        small = omega (arith, extra-le u s (u .cluster c))
+        small = extra-short u s (u .cluster c)
 
         full : (X : ℕ) (p : ℕ → Bool) → X ≤ extra u s (u .cluster c)
             → dueIn s c X p ≤ extra u s (u .cluster c) + rounds c
@@ -91,10 +91,14 @@ module _ (u : Setup) where
         by-test (s .room c) (λ e. omega (arith, i .in-room e)) (λ e. omega (arith, i .not-in-room e))
 
     pub kept-unstruck : Kept rank s c false
-        → s .charge c ≤ worstUnstruck (u .size (u .cluster c)) (u .clusters) (service u)
+        → s .charge c ≤ reachUnstruck (u .size (u .cluster c)) (u .clusters) (service u) (span u)
     kept-unstruck i = omega (arith, kept-bound false i)
 
+    pub kept-reach : (f : Bool) → Kept rank s c f
+        → s .charge c ≤ reach (u .size (u .cluster c)) (u .clusters) (service u) (span u)
+    kept-reach true i = omega (arith, kept-bound true i)
+    kept-reach false i = omega (arith, kept-bound false i)
+
     pub kept-worst : (f : Bool) → Kept rank s c f
-        → s .charge c ≤ worst (u .size (u .cluster c)) (u .clusters) (service u)
-    kept-worst true i = omega (arith, kept-bound true i)
-    kept-worst false i = omega (arith, kept-bound false i)
+        → s .charge c ≤ worst (u .size (u .cluster c)) (u .clusters) (span u)
+    kept-worst f i = omega (arith, kept-reach f i)

@@ -6,6 +6,7 @@ pub mod TellCharge
 pub mod TellRefusal
 pub mod TellSound
 pub mod TellHistory
+pub mod TellTidy
 pub mod TellLimits
 pub mod TellBounds
 pub mod TellBudgets
@@ -35,11 +36,12 @@ pub mod Leaving
 pub mod Turns
 pub mod Goes
 pub mod Pick
--- the four events
+-- the five events
 pub mod Run
 pub mod Arriving
 pub mod Invoke
 pub mod Reply
+pub mod Ready
 pub mod AbortFront
 pub mod Abort
 pub mod Placed
@@ -52,8 +54,11 @@ pub mod Steps
 pub mod Reached
 pub mod Limit
 pub mod Bounded
+-- logs
 pub mod Replays
 pub mod Records
+pub mod Said
+pub mod FirstVersion
 -- all waits of a client, and the quote
 pub mod Waits
 pub mod Budgets

@@ -16,7 +16,7 @@ use Rattle.rules.specs.Queues.{waits}
 use Rattle.rules.proofs.Tests.{by-test, clash}
 use Rattle.rules.proofs.Due.{last, last-le, due-keep, due-shift, due-low, due-full}
 use Rattle.rules.proofs.InOrder.{InOrder}
-use Rattle.rules.proofs.Ahead.{ahead, ahead-le, extra, extra-le, round}
+use Rattle.rules.proofs.Ahead.{ahead, ahead-le, extra, extra-short, round}
 use Rattle.rules.proofs.Kept.{isIt, lower, rounds, dueIn, inTheWay, inTheWay-le, Kept}
 
 -- the test fails for whoever is new in the line
@@ -109,7 +109,7 @@ module _ (u : Setup) where
             → s′ .charge c + inTheWay u s c g ≤ service u + rounds u c
             → dueIn u s′ c 0 (isIt c) ≤ extra u s′ (u .cluster c) + rounds u c
             → s′ .charge c + dueIn u s′ c 0 (isIt c) ≤ service u + 2 * rounds u c + cond g′ (service u) 0
-        sum g true e a b = omega (arith, extra-le u s′ (u .cluster c))
+        sum g true e a b = omega (arith, extra-short u s′ (u .cluster c))
         sum true false e a b = clash refl (e refl .0)
         sum false false e a b = omega (arith, e refl .1)
 

@@ -1,22 +1,21 @@
--- A pick keeps what holds, and whoever has a turn in the global queue is that many services from being done.
+-- A pick keeps what holds, and whoever has a turn in the global queue is that many services,
+-- each with a tidying, from its own.
 -- Assumes nothing.
-use Prim.Native.Nat.{ℕ, _+_, _*_, _≤_}
+use Prim.Native.Nat.{ℕ, _+_, _*_}
 use mathlib.Core.Path.{_≡_, refl}
 use mathlib.Core.Bool.{true}
 use mathlib.Core.List.{List, [], _∷_, map}
-use native.Mathlib.Nat.{mul-le-mul-right}
 use native.Mathlib.Omega.{arith}
 use Rattle.rules.specs.Lists.{has}
-use Rattle.rules.specs.Setup.{Setup, service}
+use Rattle.rules.specs.Setup.{Setup, service, span}
 use Rattle.rules.specs.State.{State, idle}
 use Rattle.rules.specs.Sound.{Full}
 use Rattle.rules.specs.Queues.{start}
 use Rattle.rules.proofs.Tests.{clash}
 use Rattle.rules.proofs.Lists.{has-head, has-tail}
-use Rattle.rules.proofs.Images.{at, at-lt}
-use Rattle.rules.proofs.Counts.{distinct-below}
+use Rattle.rules.proofs.Images.{at}
 use Rattle.rules.proofs.InOrder.{allClusters, Lined, Ordered, InOrder}
-use Rattle.rules.proofs.Ahead.{ahead, extra, round}
+use Rattle.rules.proofs.Ahead.{ahead, extra}
 use Rattle.rules.proofs.Leaving.{put}
 use Rattle.rules.proofs.Goes.{differ}
 
@@ -65,11 +64,11 @@ module _ (u : Setup) where
       }
 
   module _ (t : State) (g b : List ℕ) (j : ℕ) (h : has j (map (u .cluster) g) ≡ true) where
-    pub start-ahead : ahead u (start t g b) j ≡ service u + at j (map (u .cluster) g) * service u
+    pub start-ahead : ahead u (start t g b) j ≡ service u + at j (map (u .cluster) g) * span u
     start-ahead = go g h
       where
         go : (g : List ℕ) → has j (map (u .cluster) g) ≡ true
-            → ahead u (start t g b) j ≡ service u + at j (map (u .cluster) g) * service u
+            → ahead u (start t g b) j ≡ service u + at j (map (u .cluster) g) * span u
         go [] h = clash h refl
         go (x ∷ g) h = omega arith
 
@@ -79,13 +78,3 @@ module _ (u : Setup) where
         go : (g : List ℕ) → has j (map (u .cluster) g) ≡ true → extra u (start t g b) j ≡ 0
         go [] h = clash h refl
         go (x ∷ g) h = refl
-
-    pub start-round : Ordered u allClusters (t .lines) idle g → ahead u (start t g b) j ≤ round u
-    start-round o =
-        let few = distinct-below (u .clusters) (map (u .cluster) g) (o .turn-once) (o .turn-below) in
-        omega (
-          arith,
-          start-ahead,
-          mul-le-mul-right (service u) (at-lt j (map (u .cluster) g) h),
-          mul-le-mul-right (service u) few,
-        )

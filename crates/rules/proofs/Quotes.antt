@@ -12,13 +12,14 @@ use lib.ListN.{length}
 use borrow.Author.Tests.{eqb-true, eq-eqb, ltb-false, le-ltb, not-false}
 use Rattle.rules.specs.Limits.{maxLines}
 use Rattle.rules.specs.Refusals.{accepted, fieldOut, overPeriod, badLines}
+use Rattle.rules.specs.Setup.{span}
 use Rattle.rules.specs.Quote.{Order, Quote, fieldsFit, firstFalse, burnt, budgetOf}
-use Rattle.rules.specs.Quote.{linesWrong, fieldWrong, budgetOver, refusedQuote, acceptedQuote, quote}
-use Rattle.rules.specs.Quote.{AllTrue, Fits}
+use Rattle.rules.specs.Quote.{columnsAgree, linesWrong, fieldWrong, budgetOver, refusedQuote, acceptedQuote}
+use Rattle.rules.specs.Quote.{quote, AllTrue, Fits}
 use Rattle.rules.specs.History.{owedInAll, calls}
 use Rattle.rules.specs.Demands.{worst}
 use Rattle.rules.specs.Budgets.{Use, KeepsLine, KeepLines, Keeps, chargedFor}
-use Rattle.rules.proofs.Tests.{by-test, both-false}
+use Rattle.rules.proofs.Tests.{by-test, both-true, both-false}
 use Rattle.rules.proofs.Budgets.{covers}
 
 -- WHICH ORDERS ARE ACCEPTED
@@ -36,10 +37,15 @@ module _ (o : Order) where
   -- none of the three tests applies
   tests-fit : linesWrong o ≡ false → fieldWrong o ≡ false → budgetOver o ≡ false → Fits o
   tests-fit a b d =
-      let l = both-false (ltb maxLines (length (o .calls))) (not (eqb (length (o .calls)) (length (o .caps)))) a in
+      let l = both-false (ltb maxLines (length (o .calls))) (not (columnsAgree o)) a in
+      let even = both-true (eqb (length (o .calls)) (length (o .caps))) (eqb (length (o .calls)) (length (o .tidies)))
+      (not-false (columnsAgree o) (l .1)) in
       record {
         lines = ltb-false maxLines (length (o .calls)) (l .0);
-        columns = eqb-true (length (o .calls)) (length (o .caps)) (not-false _ (l .1));
+        columns = (
+          eqb-true (length (o .calls)) (length (o .caps)) (even .0),
+          eqb-true (length (o .calls)) (length (o .tidies)) (even .1),
+        );
         fields = all-true (fieldsFit o) (ltb-false (firstFalse (fieldsFit o)) (length (fieldsFit o)) b);
         period = ltb-false (natAbs (o .period)) (budgetOf o) d;
       }
@@ -66,7 +72,8 @@ module _ (o : Order) where
   fits-quoted f =
       let a : linesWrong o ≡ false = rw (
         le-ltb maxLines (length (o .calls)) (f .lines),
-        eq-eqb (length (o .calls)) (length (o .caps)) (f .columns),
+        eq-eqb (length (o .calls)) (length (o .caps)) (f .columns .0),
+        eq-eqb (length (o .calls)) (length (o .tidies)) (f .columns .1),
       ) in
       let b : fieldWrong o ≡ false = le-ltb (firstFalse (fieldsFit o)) (length (fieldsFit o))
       (none-false (fieldsFit o) (f .fields)) in
@@ -74,34 +81,39 @@ module _ (o : Order) where
 
 -- WHAT THE BUDGET COVERS
 
-same-worst : (m m′ K K′ l l′ : ℕ) → m ≡ m′ → K ≡ K′ → l ≡ l′ → worst m K l ≡ worst m′ K′ l′
-same-worst m m′ K K′ l l′ e f g = rw (e, f, g)
+same-worst : (m m′ K K′ S S′ : ℕ) → m ≡ m′ → K ≡ K′ → S ≡ S′ → worst m K S ≡ worst m′ K′ S′
+same-worst m m′ K K′ S S′ e f g = rw (e, f, g)
 
-line-covers : (m K n l : ℕ) (x : Use) → KeepsLine m K n l x
-    → owedInAll (x .setup) (x .client) (x .records) ≤ n * worst m K l
-line-covers m K n l x k =
-    let i : ℕ = calls (x .setup) (x .client) (x .records) in
-    let w = same-worst (x .setup .size (x .setup .cluster (x .client))) m (x .setup .clusters) K (x .setup .cap) l
-    (k .size) (k .clusters) (k .cap) in
+line-covers : (m K n l w : ℕ) (x : Use) → KeepsLine m K n l w x
+    → owedInAll (x .setup) (x .client) (x .events) ≤ n * worst m K (l + w)
+line-covers m K n l w x k =
+    let i : ℕ = calls (x .setup) (x .client) (x .events) in
+    let e = same-worst (x .setup .size (x .setup .cluster (x .client))) m (x .setup .clusters) K (span (x .setup))
+    (l + w) (k .size) (k .clusters) (omega (arith, k .cap, k .tidy)) in
     omega (
       arith,
-      covers (x .setup) (k .gate) (x .client) (k .real) (x .records),
-      ap (λ y. i * y) w,
-      mul-le-mul-right (worst m K l) (k .within),
+      covers (x .setup) (k .gate) (x .client) (k .real) (x .events),
+      ap (λ y. i * y) e,
+      mul-le-mul-right (worst m K (l + w)) (k .within),
     )
 
-lines-cover : (m K : ℕ) (calls caps : List ℤ) (xs : List Use) → KeepLines m K calls caps xs
-    → chargedFor xs ≤ burnt m K calls caps
-lines-cover m K [] caps [] k = omega arith
-lines-cover m K [] caps (x ∷ xs) k = absurd k
-lines-cover m K (n ∷ calls) [] xs k = absurd k
-lines-cover m K (n ∷ calls) (l ∷ caps) [] k = absurd k
-lines-cover m K (n ∷ calls) (l ∷ caps) (x ∷ xs) k =
-    omega (arith, line-covers m K (natAbs n) (natAbs l) x (k .0), lines-cover m K calls caps xs (k .1))
+lines-cover : (m K : ℕ) (calls caps tidies : List ℤ) (xs : List Use) → KeepLines m K calls caps tidies xs
+    → chargedFor xs ≤ burnt m K calls caps tidies
+lines-cover m K [] caps tidies [] k = omega arith
+lines-cover m K [] caps tidies (x ∷ xs) k = absurd k
+lines-cover m K (n ∷ calls) [] tidies xs k = absurd k
+lines-cover m K (n ∷ calls) (l ∷ caps) [] xs k = absurd k
+lines-cover m K (n ∷ calls) (l ∷ caps) (w ∷ tidies) [] k = absurd k
+lines-cover m K (n ∷ calls) (l ∷ caps) (w ∷ tidies) (x ∷ xs) k =
+    omega (
+      arith,
+      line-covers m K (natAbs n) (natAbs l) (natAbs w) x (k .0),
+      lines-cover m K calls caps tidies xs (k .1),
+    )
 
 pub budget-covers : (o : Order) (xs : List Use) → quote o .answer ≡ accepted → Keeps o xs
     → (natAbs (o .work) + chargedFor xs ≤ quote o .budget) × (quote o .budget ≤ natAbs (o .period))
 budget-covers o xs e k =
     let f = accepted-fits o e in
-    let c = lines-cover (natAbs (o .size)) (natAbs (o .clusters)) (o .calls) (o .caps) xs k in
+    let c = lines-cover (natAbs (o .size)) (natAbs (o .clusters)) (o .calls) (o .caps) (o .tidies) xs k in
     rw (fits-quoted o f) (omega (arith, c), f .period)

@@ -4,7 +4,6 @@ use Prim.Native.Nat.{ℕ}
 use mathlib.Core.Path.{_≡_, refl}
 use mathlib.Core.Bool.{Bool, true, false}
 use mathlib.Core.List.{List, [], _∷_}
-use mathlib.Core.Option.{Option, some, none}
 use native.Mathlib.Omega.{arith}
 use lib.Dec.{eqb}
 use borrow.Author.Tests.{eqb-true}
@@ -15,7 +14,6 @@ use Rattle.rules.specs.Rank.{outranks}
 use Rattle.rules.specs.Sound.{Sound}
 use Rattle.rules.specs.Events.{Event}
 use Rattle.rules.specs.Step.{answer, step}
-use Rattle.rules.specs.Records.{Record, eventOf, stepOf}
 use Rattle.rules.specs.History.{after, changed, strikesInRoom, passedIn, struckInRoom}
 use Rattle.rules.proofs.Tests.{by-test, clash}
 use Rattle.rules.proofs.Ranking.{Ranking}
@@ -72,11 +70,10 @@ module _ (u : Setup) where
     pub kept : (x : ℕ) → realTime u x ≡ true → Kept u (outranks u s) s x (f x)
 
   module _ (a : Accepted u) (ranking : Ranking u) where
-    event-holds : (s : State) (f : ℕ → Bool) → Holds s f → (o : Option Event)
-        → Holds (stepOf u s o) (λ x. changed u (passedIn u (strikesInRoom u) x) s o (f x))
+    event-holds : (s : State) (f : ℕ → Bool) → Holds s f → (e : Event)
+        → Holds (step u s e) (λ x. changed u (passedIn u (strikesInRoom u) x) s e (f x))
     unfolding step
-    event-holds s f i none = i
-    event-holds s f i (some e) =
+    event-holds s f i e =
         by-test (eqb (answer u s e) accepted)
         (λ q.
         let ok = eqb-true (answer u s e) accepted q in
@@ -88,14 +85,14 @@ module _ (u : Setup) where
         }))
         (λ q. rw q i)
 
-    pub reached : (h : List Record) → Holds (after u h) (λ x. struckInRoom u x h)
+    pub reached : (h : List Event) → Holds (after u h) (λ x. struckInRoom u x h)
     reached [] =
         record {
           in-order = fresh-in-order;
           placed = fresh-placed;
           kept = λ x r. begun u (outranks u fresh) fresh x false fresh-in-order refl;
         }
-    reached (r ∷ h) = event-holds (after u h) (λ x. struckInRoom u x h) (reached h) (eventOf r)
+    reached (e ∷ h) = event-holds (after u h) (λ x. struckInRoom u x h) (reached h) e
 
-    pub reached-sound : Trimmed u → (h : List Record) → Sound u (after u h)
+    pub reached-sound : Trimmed u → (h : List Event) → Sound u (after u h)
     reached-sound t h = let i = reached h in sound-is u (after u h) a t (i .in-order) (i .placed)

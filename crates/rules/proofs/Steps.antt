@@ -12,7 +12,7 @@ use Rattle.rules.specs.State.{State}
 use Rattle.rules.specs.Rank.{outranks}
 use Rattle.rules.specs.Sound.{Sound}
 use Rattle.rules.specs.Queues.{waits}
-use Rattle.rules.specs.Events.{Event, invoke, run, reply, abort, ran}
+use Rattle.rules.specs.Events.{Event, invoke, run, reply, abort, ready, ran}
 use Rattle.rules.specs.Step.{answer, next, step}
 use Rattle.rules.specs.History.{begins, strikesInRoom}
 use Rattle.rules.proofs.Tests.{by-test}
@@ -25,10 +25,12 @@ use Rattle.rules.proofs.Goes.{line-waits, room-waits}
 use Rattle.rules.proofs.Run.{charged-known, run-kept, run-in-order}
 use Rattle.rules.proofs.Invoke.{invoked-comes}
 use Rattle.rules.proofs.Reply.{replied-goes}
+use Rattle.rules.proofs.Ready.{readied-goes}
 use Rattle.rules.proofs.Abort.{aborted-goes}
-use Rattle.rules.proofs.Placed.{Placed, ran-placed, replied-placed, aborted-placed}
+use Rattle.rules.proofs.Placed.{Placed, ran-placed, replied-placed, aborted-placed, readied-placed}
 use Rattle.rules.proofs.PlacedInvoke.{invoked-placed}
 use Rattle.rules.proofs.Answers.{invoke-accepted, run-accepted, reply-accepted, abort-accepted}
+use Rattle.rules.proofs.Answers.{ready-accepted}
 use Rattle.rules.proofs.Charge.{next-charge}
 use Rattle.rules.proofs.SoundStates.{sound-in-order, sound-placed, sound-is}
 
@@ -42,9 +44,10 @@ module _ (u : Setup) (ok : Valid u) (ranking : Ranking u) (s : State) (i : InOrd
       invoked-comes u ok (outranks u s) c s i (q .known) (q .not-waiting) .0
   next-in-order (run n) a = run-in-order u (outranks u s) s n (run-accepted u s n a .fits) i
   next-in-order reply a =
-      replied-goes u ok (outranks u s) s i (ranking .order s) (reply-accepted u s a) 0 false .in-order
+      replied-goes u (outranks u s) s i (ranking .order s) (reply-accepted u s a) 0 false .in-order
   next-in-order (abort c) a =
       aborted-goes u (outranks u s) c s i (ranking .order s) (abort-accepted u s c a .waiting) 0 false _ refl .in-order
+  next-in-order ready a = readied-goes u ok (outranks u s) s i (ready-accepted u s a) 0 false .in-order
 
   pub next-placed : (e : Event) → answer u s e ≡ accepted → Placed u (next u s e)
   unfolding next
@@ -58,6 +61,7 @@ module _ (u : Setup) (ok : Valid u) (ranking : Ranking u) (s : State) (i : InOrd
   next-placed (abort c) a =
       let q = abort-accepted u s c a in
       aborted-placed u (outranks u s) s i p (ranking .order s) c (q .known) (q .real) (q .waiting)
+  next-placed ready a = readied-placed u (outranks u s) s i p
 
   -- A CLIENT'S INVARIANT
 
@@ -103,10 +107,12 @@ module _ (u : Setup) (ok : Valid u) (ranking : Ranking u) (s : State) (i : InOrd
   next-kept (run n) a x real f k = run-over n a x f k
   next-kept reply a x real f k =
       over reply a x f f
-      (replied-goes u ok (outranks u s) s i (ranking .order s) (reply-accepted u s a) x f .passes) k
+      (replied-goes u (outranks u s) s i (ranking .order s) (reply-accepted u s a) x f .passes) k
   next-kept (abort c) a x real f k =
       over (abort c) a x f (strikesInRoom u x s (abort c) || f)
       (aborted-goes u (outranks u s) c s i (ranking .order s) (abort-accepted u s c a .waiting) x f _ refl .passes) k
+  next-kept ready a x real f k =
+      over ready a x f f (readied-goes u ok (outranks u s) s i (ready-accepted u s a) x f .passes) k
 
 -- From any sound state an event leaves a sound state.
 pub step-sound : (u : Setup) (ranking : Ranking u) (s : State) (e : Event) → Sound u s → Sound u (step u s e)

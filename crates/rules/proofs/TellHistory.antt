@@ -4,15 +4,15 @@
 use Prim.Native.Nat.{ℕ}
 use mathlib.Core.Path.{_≡_, refl}
 use mathlib.Core.Bool.{Bool, true, false}
-use mathlib.Core.List.{List, [], _∷_, map, reverse}
+use mathlib.Core.List.{List, [], _∷_, map}
 use Rattle.rules.specs.Setup.{Setup}
 use Rattle.rules.specs.Rank.{outranks}
 use Rattle.rules.specs.Queues.{refill, queue, pick}
-use Rattle.rules.specs.Events.{invoked, ran, replied, aborted}
+use Rattle.rules.specs.Events.{invoked, ran, replied, aborted, readied}
 use Rattle.rules.specs.Step.{answer, next, step}
 use Rattle.rules.specs.Records.{Record, eventOf}
 use Rattle.rules.specs.History.{waiting, struck, struckInRoom, calls, owed, owedInAll}
-use Rattle.rules.proofs.Table.{rt, be, given, invokes, runs, replies, aborts}
+use Rattle.rules.proofs.Table.{rt, be, given, invokes, runs, replies, aborts, past}
 
 -- what a history says of a client
 pub record Read : Type 0 where
@@ -100,10 +100,10 @@ historyCases =
 
 abbrev pub readOf : Telling → Read
 readOf t =
-    let h = reverse (t .records) in
+    let h = past two (t .records) in
     let c = t .client in
     readAs (waiting two c h) (struck two c h) (struckInRoom two c h) (calls two c h) (owed two c h) (owedInAll two c h)
 
 pub historyCases-hold : map readOf historyCases ≡ map (λ (t : Telling). t .wanted) historyCases
-unfolding historyCases eventOf answer next step outranks refill queue pick invoked ran replied aborted
+unfolding historyCases eventOf answer next step outranks refill queue pick invoked ran replied aborted readied
 historyCases-hold = refl

@@ -6,7 +6,7 @@ use mathlib.Core.Option.{some, none}
 use Rattle.rules.specs.Setup.{setupAnswer}
 use Rattle.rules.specs.Rank.{outranks}
 use Rattle.rules.specs.Queues.{refill, queue, pick}
-use Rattle.rules.specs.Events.{invoked, ran, replied, aborted}
+use Rattle.rules.specs.Events.{invoked, ran, replied, aborted, readied}
 use Rattle.rules.specs.Step.{answer, next, step}
 use Rattle.rules.specs.Records.{eventOf}
 use Rattle.rules.specs.Replay.{replayFrom, entriesFrom}
@@ -82,5 +82,5 @@ refusalCases =
 
 pub refusalCases-hold : map got refusalCases ≡ map wanted refusalCases
 unfolding refusalCases setupAnswer entriesFrom replayFrom eventOf answer next step
-    outranks refill queue pick invoked ran replied aborted
+    outranks refill queue pick invoked ran replied aborted readied
 refusalCases-hold = refl

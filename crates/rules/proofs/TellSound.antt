@@ -13,11 +13,11 @@ abbrev pub pair : Setup
 pair = given (1 ∷ []) (rt 0 1 ∷ be 0 1 ∷ []) 10
 
 -- a real-time client may have been charged up to the limit ..
-pub charge-at-limit : ChargeSound pair 16777215 0
+pub charge-at-limit : ChargeSound pair 33554431 0
 charge-at-limit = record { effort = λ e. clash refl e; past = λ e. absurd (omega arith); limit = omega arith }
 
 -- .. and no further
-pub charge-past-limit : ChargeSound pair 16777216 0 → ⊥
+pub charge-past-limit : ChargeSound pair 33554432 0 → ⊥
 charge-past-limit h = omega (arith, h .limit)
 
 -- a best-effort client is not charged

@@ -1,23 +1,24 @@
--- What is proved of the rules, for every accepted setup and every history of records, refused ones among them.
+-- What is proved of the rules, for every accepted setup and every history of events, refused ones among them.
 -- Assumes nothing.
 use Prim.Native.Nat.{ℕ, _+_, _≤_}
-use mathlib.Core.Path.{_≡_, refl}
-use mathlib.Core.List.{List, [], _∷_, reverseAux}
-use mathlib.Core.Option.{Option, some, none}
+use mathlib.Core.Path.{_≡_, refl, ap, sym, _∙_}
+use mathlib.Core.List.{List, [], _∷_, map, reverseAux}
+use native.Mathlib.Omega.{arith}
 use lib.IntN.{natAbs}
-use borrow.Author.Tests.{ne-eqb}
 use Rattle.rules.specs.Limits.{maxCharge}
 use Rattle.rules.specs.Refusals.{accepted, unsound}
 use Rattle.rules.specs.Setup.{Setup, Accepted, trimmed}
-use Rattle.rules.specs.State.{State}
+use Rattle.rules.specs.State.{State, fresh}
+use Rattle.rules.specs.Rank.{outranks}
 use Rattle.rules.specs.Sound.{Sound}
-use Rattle.rules.specs.Queues.{waits}
-use Rattle.rules.specs.Events.{Event}
-use Rattle.rules.specs.Step.{answer, step}
-use Rattle.rules.specs.Records.{Record, eventOf, answerOf, stepOf}
+use Rattle.rules.specs.Queues.{waits, pick}
+use Rattle.rules.specs.Events.{Event, reply, replied}
+use Rattle.rules.specs.Step.{answer}
+use Rattle.rules.specs.Records.{Record, Heard, known, replyReady, unknown, heardOf, answerOf, stepOf}
 use Rattle.rules.specs.Replay.{replayFrom}
-use Rattle.rules.specs.History.{after, owed, waiting}
+use Rattle.rules.specs.History.{after, said, owed, waiting}
 use Rattle.rules.specs.Demands.{Bounded, BoundedUnstruckInRoom, BoundedUnstruck}
+use Rattle.rules.specs.Demands.{BoundedAsAsked, BoundedUnstruckAsAsked}
 use Rattle.rules.specs.Quote.{Order, budgetOf, acceptedQuote, quote, Fits}
 use Rattle.rules.specs.Budgets.{BoundedInAll, Use, Keeps, chargedFor}
 use Rattle.rules.proofs.Ranking.{by-priority}
@@ -27,45 +28,56 @@ use Rattle.rules.proofs.Steps.{step-sound}
 use Rattle.rules.proofs.Reached.{reached, reached-sound}
 use Rattle.rules.proofs.Limit.{never-unsound}
 use Rattle.rules.proofs.Struck.{unstruck-in-room}
-use Rattle.rules.proofs.Bounded.{bounded-by, bounded-unstruck-by}
+use Rattle.rules.proofs.Bounded.{bounded-by, bounded-unstruck-by, bounded-as-asked-by}
+use Rattle.rules.proofs.Said.{said-step, record-keeps, refused-record}
+use Rattle.rules.proofs.FirstVersion.{Settled, reply-picks, never-tidying}
 use Rattle.rules.proofs.Waits.{waiting-waits}
 use Rattle.rules.proofs.Budgets.{covers}
 use Rattle.rules.proofs.Quotes.{accepted-fits, fits-quoted, budget-covers}
 
--- A refused event leaves the state as it was.
-pub refused-same : (u : Setup) (s : State) (o : Option Event)
-    → (answerOf u s o ≡ accepted → ⊥) → stepOf u s o ≡ s
-unfolding step
-refused-same u s none n = refl
-refused-same u s (some e) n = rw (ne-eqb (answer u s e) accepted n)
+-- A refused record leaves the state as it was.
+pub refused-same : (u : Setup) (s : State) (x : Heard) → (answerOf u s x ≡ accepted → ⊥) → stepOf u s x ≡ s
+refused-same = refused-record
 
--- A log read forwards comes to the state after its history.
-pub replay-after : (u : Setup) (rs h : List Record) → replayFrom u (after u h) rs ≡ after u (reverseAux rs h)
+-- A log read forwards comes to the state after the events that its records say.
+pub replay-after : (u : Setup) (xs past : List Heard)
+    → replayFrom u (after u (said u past)) xs ≡ after u (said u (reverseAux xs past))
 unfolding replayFrom
-replay-after u [] h = refl
-replay-after u (r ∷ rs) h = replay-after u rs (r ∷ h)
+replay-after u [] past = refl
+replay-after u (x ∷ xs) past =
+    ap (λ s. replayFrom u s xs) (sym (said-step u fresh (said u past) x)) ∙ replay-after u xs (x ∷ past)
 
 -- The stored charge is the sum over the history.
-pub stored-is-sum : (u : Setup) (c : ℕ) (h : List Record) → after u h .charge c ≡ owed u c h
+pub stored-is-sum : (u : Setup) (c : ℕ) (h : List Event) → after u h .charge c ≡ owed u c h
 stored-is-sum = charge-is-owed
 
 -- Every reached state is sound.
-pub every-state-sound : (u : Setup) → Accepted u → (h : List Record) → Sound (trimmed u) (after (trimmed u) h)
+pub every-state-sound : (u : Setup) → Accepted u → (h : List Event) → Sound (trimmed u) (after (trimmed u) h)
 every-state-sound u a h =
     reached-sound (trimmed u) (trimmed-accepted u a) (by-priority (trimmed u)) (trimmed-is u) h
 
--- From any sound state an event, accepted or refused, leaves a sound state.
-pub sound-stays : (u : Setup) (s : State) (o : Option Event) → Sound u s → Sound u (stepOf u s o)
-sound-stays u s none h = h
-sound-stays u s (some e) h = step-sound u (by-priority u) s e h
+-- From any sound state a record, accepted or refused, leaves a sound state.
+pub sound-stays : (u : Setup) (s : State) (x : Heard) → Sound u s → Sound u (stepOf u s x)
+sound-stays u = record-keeps u (Sound u) (step-sound u (by-priority u))
+
+-- LOGS OF VERSION 1
+
+-- An accepted reply and its pick are one step, as document 01 has it ..
+pub first-version-reply : (u : Setup) (s : State) → answer u s reply ≡ accepted
+    → stepOf u s replyReady ≡ pick (replied u (outranks u s) s)
+first-version-reply = reply-picks
+
+-- .. and between two records the server never tidies, so that W bounds no run.
+pub first-version-settled : (u : Setup) (rs : List Record) → Settled (after u (said u (map (heardOf 1) rs)))
+first-version-settled = never-tidying
 
 -- DEMAND 3
 
--- At most (2 + 2mK)L.
+-- At most 2L + 2mKS.
 pub bounded : (u : Setup) → Accepted u → Bounded u
 bounded u a = bounded-by u a (by-priority u)
 
--- Without an abort of its own cluster's request in service while it is in the waiting room, at most (1 + 2mK)L ..
+-- Without an abort of its own cluster's request in service while it is in the waiting room, at most L + 2mKS ..
 pub bounded-unstruck-in-room : (u : Setup) → Accepted u → BoundedUnstruckInRoom u
 bounded-unstruck-in-room u a = bounded-unstruck-by u a (by-priority u)
 
@@ -73,14 +85,22 @@ bounded-unstruck-in-room u a = bounded-unstruck-by u a (by-priority u)
 pub bounded-unstruck : (u : Setup) → Accepted u → BoundedUnstruck u
 bounded-unstruck u a h c r n = bounded-unstruck-in-room u a h c r (unstruck-in-room u c h n)
 
+-- The figures that are asked for: at most (2 + 2mK)S ..
+pub bounded-as-asked : (u : Setup) → Accepted u → BoundedAsAsked u
+bounded-as-asked u a = bounded-as-asked-by u a (by-priority u)
+
+-- .. and (1 + 2mK)S without such an abort.
+pub bounded-unstruck-as-asked : (u : Setup) → Accepted u → BoundedUnstruckAsAsked u
+bounded-unstruck-as-asked u a h c r n = omega (arith, bounded-unstruck u a h c r n)
+
 -- ALL WAITS OF A CLIENT, AND ITS BUDGET
 
 -- A wait by events, from an accepted invoke to the reply that ends it or the client's accepted abort, is a place in the
 -- client's line or waiting room.
-pub wait-is-place : (u : Setup) → Accepted u → (c : ℕ) (h : List Record) → waiting u c h ≡ waits u (after u h) c
+pub wait-is-place : (u : Setup) → Accepted u → (c : ℕ) (h : List Event) → waiting u c h ≡ waits u (after u h) c
 wait-is-place u a c h = waiting-waits u c a h
 
--- Over all waits at most (2 + 2mK)L for each accepted invoke.
+-- Over all waits at most (2 + 2mK)S for each accepted invoke.
 pub bounded-in-all : (u : Setup) → Accepted u → BoundedInAll u
 bounded-in-all u a h c r = covers u a c r h
 
@@ -97,11 +117,13 @@ within-budget = budget-covers
 
 -- THE CHARGE LIMIT
 
--- No charge passes 16,777,215 ..
-pub charge-limit : (u : Setup) → Accepted u → (h : List Record) (c : ℕ) → after u h .charge c ≤ maxCharge
+-- No charge passes 33,554,431 ..
+pub charge-limit : (u : Setup) → Accepted u → (h : List Event) (c : ℕ) → after u h .charge c ≤ maxCharge
 charge-limit u a h c = reached u a (by-priority u) h .placed .charge c .limit
 
 -- .. so 19 is never given from an accepted fresh gate.
-pub nineteen-never : (u : Setup) → Accepted u → (h : List Record) (r : Record)
-    → answerOf u (after u h) (eventOf r) ≡ unsound → ⊥
-nineteen-never = never-unsound
+pub nineteen-never : (u : Setup) → Accepted u → (h : List Event) (x : Heard)
+    → answerOf u (after u h) x ≡ unsound → ⊥
+nineteen-never u a h (known e) z = never-unsound u a h e z
+nineteen-never u a h replyReady z = never-unsound u a h reply z
+nineteen-never u a h unknown z = omega arith

@@ -4,21 +4,19 @@ use Prim.Native.Nat.{ℕ}
 use mathlib.Core.Path.{_≡_, refl, sym, _∙_}
 use mathlib.Core.Bool.{Bool, true, false, not, _&&_, _||_}
 use mathlib.Core.List.{List, [], _∷_, _++_}
-use mathlib.Core.Option.{Option, some, none}
 use lib.Dec.{eqb, ltb}
 use lib.ListN.{length}
 use borrow.Author.Tests.{eqb-true, eqb-false, eq-eqb}
 use Rattle.rules.specs.Refusals.{accepted}
 use Rattle.rules.specs.Lists.{upd, has, heads, remove, Distinct}
 use Rattle.rules.specs.Setup.{Setup, Accepted, realTime}
-use Rattle.rules.specs.State.{State, Server, idle, front, best, spent, isFront, serves}
+use Rattle.rules.specs.State.{State, Server, idle, front, best, spent, tidying, isFront, isServing, serves}
 use Rattle.rules.specs.Rank.{Rank, outranks}
 use Rattle.rules.specs.Queues.{waits, without, refill, queue, start, pick, pickIdle}
-use Rattle.rules.specs.Events.{Event, invoke, run, reply, abort, joined, roomed, arrive, invoked}
-use Rattle.rules.specs.Events.{ran, freed, gone, ended, replied, spend, unqueue, aborted}
+use Rattle.rules.specs.Events.{Event, invoke, run, reply, abort, ready, joined, roomed, arrive, invoked}
+use Rattle.rules.specs.Events.{ran, freed, gone, ended, replied, spend, unqueue, aborted, readied}
 use Rattle.rules.specs.Step.{answer, next, step}
-use Rattle.rules.specs.Records.{Record, eventOf, stepOf}
-use Rattle.rules.specs.History.{after, changed, waitsOn, waiting}
+use Rattle.rules.specs.History.{after, waitsOn, waiting}
 use Rattle.rules.proofs.Tests.{by-test, clash, not-so, either-true, upd-same, upd-other}
 use Rattle.rules.proofs.Lists.{has-append, snoc-has, removed, remove-other, heads-has}
 use Rattle.rules.proofs.Highest.{StrictTotal}
@@ -53,6 +51,7 @@ module _ (u : Setup) (x : ℕ) where
   idle-waits (front d) t = refl
   idle-waits (best d) t = refl
   idle-waits (spent d) t = refl
+  idle-waits tidying t = refl
 
   -- a new last of a line
   last-of : (lines : ℕ → List ℕ) (d : ℕ)
@@ -146,10 +145,10 @@ module _ (u : Setup) (x : ℕ) where
     out-of-room : (c : ℕ) → has c (s .lines (u .cluster c)) ≡ true → s .room c ≡ false
     out-of-room c h = not-so (s .room c) (λ r. clash h (i .lined .in-room c r .apart))
 
-    ended-waits : Placed u s → (v : Server) → s .server ≡ v → (v ≡ idle → ⊥)
+    ended-waits : Placed u s → (v : Server) → s .server ≡ v → isServing v ≡ true
         → waits u (ended u rank v s) x ≡ not (serves v x) && waits u s x
     unfolding queue
-    ended-waits p idle e n = absurd (n refl)
+    ended-waits p idle e n = clash n refl
     ended-waits p (front c) e n =
         gone-waits rank order c (freed s) (i .lined .line (u .cluster c) .once)
         (out-of-room c (heads-has c (s .lines (u .cluster c)) (i .ordered .served-front c e)))
@@ -159,6 +158,7 @@ module _ (u : Setup) (x : ℕ) where
         let q = rw e at (p .served) in
         not-there c s (λ h. either-true (has c (s .lines (u .cluster c))) (s .room c) h
         (λ z. clash z (q .apart)) (λ z. clash z (q .out)))
+    ended-waits p tidying e n = clash n refl
 
     aborted-waits : (c : ℕ) → waits u s c ≡ true → waits u (aborted u rank c s) x ≡ not (eqb c x) && waits u s x
     unfolding aborted queue
@@ -179,7 +179,7 @@ module _ (u : Setup) (x : ℕ) where
   -- what an accepted event makes of a wait of x
   next-waits : (s : State) → InOrder u s → Placed u s → (e : Event) → answer u s e ≡ accepted
       → waits u (next u s e) x ≡ waitsOn u x s e (waits u s x)
-  unfolding next invoked ran replied
+  unfolding next invoked ran replied readied
   next-waits s i p (invoke c) a =
       idle-waits (s .server) _
       ∙ by-test (realTime u c)
@@ -191,26 +191,21 @@ module _ (u : Setup) (x : ℕ) where
       (λ e. rw e)))
   next-waits s i p (run n) a = refl
   next-waits s i p reply a =
-      pick-waits _
-      ∙ ended-waits (outranks u s) (by-priority u .order s) s i p (s .server) refl (reply-accepted u s a)
+      ended-waits (outranks u s) (by-priority u .order s) s i p (s .server) refl (reply-accepted u s a)
   next-waits s i p (abort c) a =
       aborted-waits (outranks u s) (by-priority u .order s) s i c (abort-accepted u s c a .waiting)
+  next-waits s i p ready a = pick-waits s
 
   -- HISTORIES
 
   -- A wait by events, from an accepted invoke to the reply that ends it or the client's accepted abort, is a place in
   -- the client's line or waiting room.
-  pub waiting-waits : Accepted u → (h : List Record) → waiting u x h ≡ waits u (after u h) x
+  pub waiting-waits : Accepted u → (h : List Event) → waiting u x h ≡ waits u (after u h) x
   unfolding step
   waiting-waits ok [] = refl
-  waiting-waits ok (r ∷ h) = go (eventOf r) (waiting-waits ok h)
-    where
-      go : (o : Option Event) → waiting u x h ≡ waits u (after u h) x
-          → changed u (waitsOn u x) (after u h) o (waiting u x h) ≡ waits u (stepOf u (after u h) o) x
-      go none w = w
-      go (some e) w =
-          let i = reached u ok (by-priority u) h in
-          by-test (eqb (answer u (after u h) e) accepted)
-          (λ q. rw (q, w)
-          (sym (next-waits (after u h) (i .in-order) (i .placed) e (eqb-true (answer u (after u h) e) accepted q))))
-          (λ q. rw q w)
+  waiting-waits ok (e ∷ h) =
+      let i = reached u ok (by-priority u) h in
+      by-test (eqb (answer u (after u h) e) accepted)
+      (λ q. rw (q, waiting-waits ok h)
+      (sym (next-waits (after u h) (i .in-order) (i .placed) e (eqb-true (answer u (after u h) e) accepted q))))
+      (λ q. rw q (waiting-waits ok h))

@@ -4,31 +4,54 @@ use Prim.Native.Nat.{ℕ, _+_, _*_, _≤_}
 use mathlib.Core.Path.{_≡_}
 use mathlib.Core.Bool.{true, false}
 use mathlib.Core.List.{List}
-use Rattle.rules.specs.Setup.{Setup, realTime, service}
-use Rattle.rules.specs.Records.{Record}
+use Rattle.rules.specs.Setup.{Setup, realTime, service, span}
+use Rattle.rules.specs.Events.{Event}
 use Rattle.rules.specs.History.{owed, struck, struckInRoom}
 
--- (2 + 2mK)L
+-- THE FIGURES
+
+-- (2 + 2mK)S, with S for L + W
 abbrev pub worst : ℕ → ℕ → ℕ → ℕ
-worst m K L = (2 + 2 * (m * K)) * L
+worst m K S = (2 + 2 * (m * K)) * S
 
--- (1 + 2mK)L
+-- (1 + 2mK)S
 abbrev pub worstUnstruck : ℕ → ℕ → ℕ → ℕ
-worstUnstruck m K L = (1 + 2 * (m * K)) * L
+worstUnstruck m K S = (1 + 2 * (m * K)) * S
 
--- After any records, refused ones among them, a real-time client's charge for its latest wait is at most (2 + 2mK)L;
--- m is the size of its own cluster.
+-- What is reached is less where W is over 0. A tidying counts with the service after it, and two services count without
+-- one: the one that runs when the wait begins, and that of its own cluster's aborted request. 2L + 2mKS ..
+abbrev pub reach : ℕ → ℕ → ℕ → ℕ → ℕ
+reach m K L S = 2 * L + 2 * (m * (K * S))
+
+-- .. and L + 2mKS
+abbrev pub reachUnstruck : ℕ → ℕ → ℕ → ℕ → ℕ
+reachUnstruck m K L S = L + 2 * (m * (K * S))
+
+-- WHAT IS PROVED OF THEM
+
+-- After any events, refused ones among them, a real-time client's charge for its latest wait is at most 2L + 2mKS; m is
+-- the size of its own cluster.
 abbrev pub Bounded : Setup → Type 0
-Bounded u = (h : List Record) (c : ℕ) → realTime u c ≡ true
-    → owed u c h ≤ worst (u .size (u .cluster c)) (u .clusters) (service u)
+Bounded u = (h : List Event) (c : ℕ) → realTime u c ≡ true
+    → owed u c h ≤ reach (u .size (u .cluster c)) (u .clusters) (service u) (span u)
 
 -- Without an accepted abort of its own cluster's request in service while it was in the waiting room, at most
--- (1 + 2mK)L ..
+-- L + 2mKS ..
 abbrev pub BoundedUnstruckInRoom : Setup → Type 0
-BoundedUnstruckInRoom u = (h : List Record) (c : ℕ) → realTime u c ≡ true → struckInRoom u c h ≡ false
-    → owed u c h ≤ worstUnstruck (u .size (u .cluster c)) (u .clusters) (service u)
+BoundedUnstruckInRoom u = (h : List Event) (c : ℕ) → realTime u c ≡ true → struckInRoom u c h ≡ false
+    → owed u c h ≤ reachUnstruck (u .size (u .cluster c)) (u .clusters) (service u) (span u)
 
 -- .. and so without one during that wait at all.
 abbrev pub BoundedUnstruck : Setup → Type 0
-BoundedUnstruck u = (h : List Record) (c : ℕ) → realTime u c ≡ true → struck u c h ≡ false
-    → owed u c h ≤ worstUnstruck (u .size (u .cluster c)) (u .clusters) (service u)
+BoundedUnstruck u = (h : List Event) (c : ℕ) → realTime u c ≡ true → struck u c h ≡ false
+    → owed u c h ≤ reachUnstruck (u .size (u .cluster c)) (u .clusters) (service u) (span u)
+
+-- The figures that are asked for, and that the quote reads, follow: at most (2 + 2mK)S ..
+abbrev pub BoundedAsAsked : Setup → Type 0
+BoundedAsAsked u = (h : List Event) (c : ℕ) → realTime u c ≡ true
+    → owed u c h ≤ worst (u .size (u .cluster c)) (u .clusters) (span u)
+
+-- .. and (1 + 2mK)S without such an abort.
+abbrev pub BoundedUnstruckAsAsked : Setup → Type 0
+BoundedUnstruckAsAsked u = (h : List Event) (c : ℕ) → realTime u c ≡ true → struck u c h ≡ false
+    → owed u c h ≤ worstUnstruck (u .size (u .cluster c)) (u .clusters) (span u)

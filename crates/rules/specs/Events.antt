@@ -1,4 +1,4 @@
--- What each of the four events does, where it is accepted.
+-- What each of the five events does, where it is accepted.
 -- Assumes nothing.
 use Prim.Native.Nat.{ℕ, _+_}
 use mathlib.Core.Bool.{Bool, true, false, _&&_, cond}
@@ -7,17 +7,19 @@ use lib.Dec.{eqb, ltb}
 use lib.ListN.{length}
 use Rattle.rules.specs.Lists.{upd, remove, heads, countBelow}
 use Rattle.rules.specs.Setup.{Setup, realTime}
-use Rattle.rules.specs.State.{State, Server, idle, front, best, spent, isFront}
-use Rattle.rules.specs.State.{withLine, withRoom, withGlobal, withBackground, withServer, withCharge}
+use Rattle.rules.specs.State.{State, Server, idle, front, best, spent, tidying, isFront}
+use Rattle.rules.specs.Changes.{withLine, withRoom, withGlobal, withBackground, withServer, withCharge}
 use Rattle.rules.specs.Rank.{Rank}
 use Rattle.rules.specs.Queues.{waits, without, refill, queue, pick, pickIdle}
 
--- An event is one of four kinds, each with its own data: a client, a number of units, or none.
+-- An event is one of five kinds, each with its own data: a client, a number of units, or none. `ready` is the event
+-- that request 2 calls wait: the server has tidied up. Document 01 has the word wait for what a client does.
 pub data Event : Type 0 where
   invoke : ℕ → Event
   run : ℕ → Event
   reply : Event
   abort : ℕ → Event
+  ready : Event
 
 -- INVOKE
 
@@ -40,7 +42,7 @@ abbrev pub arrive : Setup → ℕ → List ℕ → State → State
 arrive u c [] s = queue u (u .cluster c) (joined u c s)
 arrive u c (x ∷ l) s = cond (ltb (length (x ∷ l)) (u .size (u .cluster c))) (joined u c s) (roomed c s)
 
--- Invoke c: the one or the other by its kind. Last, if the server is idle, pick.
+-- Invoke c: the one or the other by its kind. Last, if the server is idle, pick; while it tidies they queue only.
 unfoldable pub invoked : Setup → ℕ → State → State
 invoked u c s =
     pickIdle (s .server) (cond (realTime u c) (arrive u c (s .lines (u .cluster c)) s) (behind c s))
@@ -58,16 +60,16 @@ module _ (u : Setup) (rank : Rank) where
   charged s c =
       realTime u c && (waits u s c && ltb (countBelow (precedes s c) (u .clients)) (u .size (u .cluster c)))
 
-  -- Run n. Units served grow by n. Each charged client's charge grows by n.
+  -- Run n. Units served, or tidied, grow by n. Each charged client's charge grows by n.
   unfoldable pub ran : ℕ → State → State
   ran n s =
       withCharge (λ (c : ℕ). s .charge c + cond (charged s c) n 0) (withServer (s .server) (s .units + n) s)
 
 -- REPLY
 
--- the request in service has ended, and nobody is picked yet
+-- the request in service has ended, and the server tidies: 0 units so far
 abbrev pub freed : State → State
-freed s = withServer idle (s .units) s
+freed s = withServer tidying 0 s
 
 -- c leaves its line, then refill
 abbrev pub gone : Setup → Rank → ℕ → State → State
@@ -80,10 +82,11 @@ ended u rank idle s = s
 ended u rank (front c) s = queue u (u .cluster c) (gone u rank c (freed s))
 ended u rank (best c) s = freed s
 ended u rank (spent c) s = queue u (u .cluster c) (freed s)
+ended u rank tidying s = s
 
--- Reply: that, then pick.
+-- Reply: all that at once, and nobody is picked yet.
 unfoldable pub replied : Setup → Rank → State → State
-replied u rank s = pick (ended u rank (s .server) s)
+replied u rank s = ended u rank (s .server) s
 
 -- ABORT
 
@@ -109,3 +112,9 @@ aborted u rank c s =
     (cond (isFront (s .server) c) (gone u rank c (spend c s))
     (cond (heads c (s .lines (u .cluster c))) (queue u (u .cluster c) (gone u rank c (unqueue c s)))
     (gone u rank c s)))
+
+-- READY
+
+-- The tidying ends, and the next is picked.
+unfoldable pub readied : State → State
+readied s = pick s

@@ -1,38 +1,39 @@
--- A history of records, refused ones among them: what a client is charged in it, when it waits, and what hits it
--- meanwhile. The latest record stands first.
+-- A history of events, refused ones among them: what a client is charged in it, when it waits, and what hits it
+-- meanwhile. The latest event stands first.
 -- Assumes nothing.
 use Prim.Native.Nat.{ℕ, suc, _+_}
 use mathlib.Core.Bool.{Bool, true, false, not, _&&_, _||_, cond}
 use mathlib.Core.List.{List, [], _∷_}
-use mathlib.Core.Option.{Option, some, none}
 use lib.Dec.{eqb}
 use Rattle.rules.specs.Refusals.{accepted}
 use Rattle.rules.specs.Setup.{Setup, realTime}
 use Rattle.rules.specs.State.{State, fresh, isFront, serves}
 use Rattle.rules.specs.Rank.{outranks}
 use Rattle.rules.specs.Queues.{waits}
-use Rattle.rules.specs.Events.{Event, invoke, run, reply, abort, charged}
-use Rattle.rules.specs.Step.{answer}
-use Rattle.rules.specs.Records.{Record, eventOf, stepOf}
+use Rattle.rules.specs.Events.{Event, invoke, run, reply, abort, ready, charged}
+use Rattle.rules.specs.Step.{answer, afterFrom}
+use Rattle.rules.specs.Records.{Heard, saidOf}
 
 module _ (u : Setup) where
   -- the state that a fresh gate comes to
-  abbrev pub after : List Record → State
-  after [] = fresh
-  after (r ∷ h) = stepOf u (after h) (eventOf r)
+  abbrev pub after : List Event → State
+  after h = afterFrom u fresh h
+
+  -- the events of a log's records by what each says, the latest first
+  abbrev pub said : List Heard → List Event
+  said [] = []
+  said (x ∷ xs) = saidOf u (after (said xs)) x (said xs)
 
   -- WHAT IS KEPT ALONG A HISTORY
 
-  -- `change s e x`: what becomes of x with an accepted event e that found the state s. A refused record changes
-  -- nothing.
-  abbrev pub changed : {A : Type 0} → (State → Event → A → A) → State → Option Event → A → A
-  changed change s none x = x
-  changed change s (some e) x = cond (eqb (answer u s e) accepted) (change s e x) x
+  -- `change s e x`: what becomes of x with an accepted event e that found the state s. A refused event changes nothing.
+  abbrev pub changed : {A : Type 0} → (State → Event → A → A) → State → Event → A → A
+  changed change s e x = cond (eqb (answer u s e) accepted) (change s e x) x
 
-  -- x stands before the first record
-  abbrev pub along : {A : Type 0} → (State → Event → A → A) → A → List Record → A
+  -- x stands before the first event
+  abbrev pub along : {A : Type 0} → (State → Event → A → A) → A → List Event → A
   along change x [] = x
-  along change x (r ∷ h) = changed change (after h) (eventOf r) (along change x h)
+  along change x (e ∷ h) = changed change (after h) e (along change x h)
 
   -- THE CHARGE OF A CLIENT'S LATEST WAIT
 
@@ -42,6 +43,7 @@ module _ (u : Setup) where
   begins c (run n) = false
   begins c reply = false
   begins c (abort d) = false
+  begins c ready = false
 
   -- Each charged client's charge grows by n: what the event adds to c's.
   abbrev pub adds : ℕ → State → Event → ℕ
@@ -49,12 +51,13 @@ module _ (u : Setup) where
   adds c s (run n) = cond (charged u (outranks u s) s c) n 0
   adds c s reply = 0
   adds c s (abort d) = 0
+  adds c s ready = 0
 
   abbrev pub owes : ℕ → State → Event → ℕ → ℕ
   owes c s e n = cond (begins c e) 0 (n + adds c s e)
 
   -- the units of all accepted runs that charged c, from its latest accepted invoke on
-  abbrev pub owed : ℕ → List Record → ℕ
+  abbrev pub owed : ℕ → List Event → ℕ
   owed c = along (owes c) 0
 
   -- ALL OF ITS WAITS
@@ -63,14 +66,14 @@ module _ (u : Setup) where
   owesInAll c s e n = n + adds c s e
 
   -- the units of all accepted runs that charged c
-  abbrev pub owedInAll : ℕ → List Record → ℕ
+  abbrev pub owedInAll : ℕ → List Event → ℕ
   owedInAll c = along (owesInAll c) 0
 
   abbrev pub callsAgain : ℕ → State → Event → ℕ → ℕ
   callsAgain c s e n = cond (begins c e) (suc n) n
 
   -- how many of its invokes were accepted
-  abbrev pub calls : ℕ → List Record → ℕ
+  abbrev pub calls : ℕ → List Event → ℕ
   calls c = along (callsAgain c) 0
 
   -- WHEN IT WAITS
@@ -81,12 +84,13 @@ module _ (u : Setup) where
   ends c s (run n) = false
   ends c s reply = serves (s .server) c
   ends c s (abort d) = eqb d c
+  ends c s ready = false
 
   abbrev pub waitsOn : ℕ → State → Event → Bool → Bool
   waitsOn c s e b = cond (begins c e) true (not (ends c s e) && b)
 
   -- a wait of c has begun and has not ended
-  abbrev pub waiting : ℕ → List Record → Bool
+  abbrev pub waiting : ℕ → List Event → Bool
   waiting c = along (waitsOn c) false
 
   -- WHETHER ITS CLUSTER'S REQUEST IN SERVICE WAS ABORTED MEANWHILE
@@ -97,6 +101,7 @@ module _ (u : Setup) where
   hits c s (run n) = false
   hits c s reply = false
   hits c s (abort d) = (isFront (s .server) d && eqb (u .cluster d) (u .cluster c)) && not (eqb d c)
+  hits c s ready = false
 
   -- while c waits
   abbrev pub strikes : ℕ → State → Event → Bool
@@ -111,9 +116,9 @@ module _ (u : Setup) where
   passedIn p c s e b = cond (begins c e) false (p c s e || b)
 
   -- an accepted abort hit its own cluster's request in service during c's latest wait ..
-  abbrev pub struck : ℕ → List Record → Bool
+  abbrev pub struck : ℕ → List Event → Bool
   struck c = along (passedIn strikes c) false
 
   -- .. and did so while c was in the waiting room
-  abbrev pub struckInRoom : ℕ → List Record → Bool
+  abbrev pub struckInRoom : ℕ → List Event → Bool
   struckInRoom c = along (passedIn strikesInRoom c) false

@@ -18,9 +18,13 @@ maxClients = 64
 abbrev pub maxCap : ℕ
 maxCap = 65535
 
--- No charge is over 16,777,215.
+-- Second cap W, in units: 0 to 65,535.
+abbrev pub maxTidy : ℕ
+maxTidy = 65535
+
+-- No charge is over 33,554,431.
 abbrev pub maxCharge : ℕ
-maxCharge = 16777215
+maxCharge = 33554431
 
 -- Unused places hold 255.
 abbrev pub unusedPlace : ℕ

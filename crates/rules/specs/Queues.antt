@@ -8,8 +8,8 @@ use lib.Dec.{eqb, ltb}
 use lib.ListN.{length}
 use Rattle.rules.specs.Lists.{has, remove, highest}
 use Rattle.rules.specs.Setup.{Setup}
-use Rattle.rules.specs.State.{State, Server, idle, front, best, spent, blocks}
-use Rattle.rules.specs.State.{withLine, withRoom, withGlobal, withBackground, withServer}
+use Rattle.rules.specs.State.{State, Server, idle, front, best, spent, tidying, blocks}
+use Rattle.rules.specs.Changes.{withLine, withRoom, withGlobal, withBackground, withServer}
 use Rattle.rules.specs.Rank.{Rank}
 
 -- WHO WAITS
@@ -68,3 +68,4 @@ pickIdle idle s = pick s
 pickIdle (front c) s = s
 pickIdle (best c) s = s
 pickIdle (spent c) s = s
+pickIdle tidying s = s

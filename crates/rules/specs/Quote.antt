@@ -8,10 +8,12 @@ use lib.Dec.{eqb, ltb, leb}
 use lib.IntN.{ℤ, pos, negsuc, natAbs}
 use lib.ListN.{length}
 use Rattle.rules.specs.Limits.{maxWork, maxPeriod, maxSize, maxClusters, maxLines, maxCalls, maxCap}
+use Rattle.rules.specs.Limits.{maxTidy}
 use Rattle.rules.specs.Refusals.{accepted, fieldOut, overPeriod, badLines}
 use Rattle.rules.specs.Demands.{worst}
 
--- Fields are signed: own work e, period p, m and K, and the two columns of the server lines, calls N and cap L.
+-- Fields are signed: own work e, period p, m and K, and the three columns of the server lines, calls N, cap L and
+-- second cap W.
 pub record Order : Type 0 where
   pub work : ℤ
   pub period : ℤ
@@ -19,10 +21,12 @@ pub record Order : Type 0 where
   pub clusters : ℤ
   pub calls : List ℤ
   pub caps : List ℤ
+  pub tidies : List ℤ
 
--- the six in that order
-abbrev pub orderOf : ℤ → ℤ → ℤ → ℤ → List ℤ → List ℤ → Order
-orderOf e p m K calls caps = record { work = e; period = p; size = m; clusters = K; calls = calls; caps = caps }
+-- the seven in that order
+abbrev pub orderOf : ℤ → ℤ → ℤ → ℤ → List ℤ → List ℤ → List ℤ → Order
+orderOf e p m K calls caps tidies =
+    record { work = e; period = p; size = m; clusters = K; calls = calls; caps = caps; tidies = tidies }
 
 pub record Quote : Type 0 where
   pub budget : ℕ
@@ -36,43 +40,51 @@ abbrev pub inRange : ℕ → ℕ → ℤ → Bool
 inRange low high (pos n) = leb low n && leb n high
 inRange low high (negsuc n) = false
 
--- N (0 to 1,000) and L (1 to 65,535) of each line
-abbrev pub linesFit : List ℤ → List ℤ → List Bool
-linesFit [] caps = []
-linesFit (n ∷ calls) [] = []
-linesFit (n ∷ calls) (l ∷ caps) = inRange 0 maxCalls n ∷ inRange 1 maxCap l ∷ linesFit calls caps
+-- N (0 to 1,000), L (1 to 65,535) and W (0 to 65,535) of each line
+abbrev pub linesFit : List ℤ → List ℤ → List ℤ → List Bool
+linesFit [] caps tidies = []
+linesFit (n ∷ calls) [] tidies = []
+linesFit (n ∷ calls) (l ∷ caps) [] = []
+linesFit (n ∷ calls) (l ∷ caps) (w ∷ tidies) =
+    inRange 0 maxCalls n ∷ inRange 1 maxCap l ∷ inRange 0 maxTidy w ∷ linesFit calls caps tidies
 
--- The fields in the order e, p, m, K, then N and L of each line: whether each is in its range.
+-- The fields in the order e, p, m, K, then N, L and W of each line: whether each is in its range.
 abbrev pub fieldsFit : Order → List Bool
 fieldsFit o =
     inRange 1 maxWork (o .work) ∷
     inRange 1 maxPeriod (o .period) ∷
     inRange 1 maxSize (o .size) ∷
     inRange 1 maxClusters (o .clusters) ∷
-    linesFit (o .calls) (o .caps)
+    linesFit (o .calls) (o .caps) (o .tidies)
 
--- the place of the first false, the length if there is none: 0 to 3, and 4 + 2i and 5 + 2i for line i from 0
+-- the place of the first false, the length if there is none: 0 to 3, and 4 + 3i to 6 + 3i for line i from 0
 abbrev pub firstFalse : List Bool → ℕ
 firstFalse [] = 0
 firstFalse (b ∷ bs) = cond b (suc (firstFalse bs)) 0
 
 -- BUDGET
 
--- the sum over lines of N(2 + 2mK)L
-abbrev pub burnt : ℕ → ℕ → List ℤ → List ℤ → ℕ
-burnt m K [] caps = 0
-burnt m K (n ∷ calls) [] = 0
-burnt m K (n ∷ calls) (l ∷ caps) = natAbs n * worst m K (natAbs l) + burnt m K calls caps
+-- the sum over lines of N(2 + 2mK)(L + W)
+abbrev pub burnt : ℕ → ℕ → List ℤ → List ℤ → List ℤ → ℕ
+burnt m K [] caps tidies = 0
+burnt m K (n ∷ calls) [] tidies = 0
+burnt m K (n ∷ calls) (l ∷ caps) [] = 0
+burnt m K (n ∷ calls) (l ∷ caps) (w ∷ tidies) =
+    natAbs n * worst m K (natAbs l + natAbs w) + burnt m K calls caps tidies
 
--- Budget = e + the sum over lines of N(2 + 2mK)L.
+-- Budget = e + the sum over lines of N(2 + 2mK)(L + W).
 abbrev pub budgetOf : Order → ℕ
-budgetOf o = natAbs (o .work) + burnt (natAbs (o .size)) (natAbs (o .clusters)) (o .calls) (o .caps)
+budgetOf o = natAbs (o .work) + burnt (natAbs (o .size)) (natAbs (o .clusters)) (o .calls) (o .caps) (o .tidies)
 
 -- ANSWER
 
--- 32: over 16 server lines, or the two columns differ in length
+-- no two of the three columns differ in length
+abbrev pub columnsAgree : Order → Bool
+columnsAgree o = eqb (length (o .calls)) (length (o .caps)) && eqb (length (o .calls)) (length (o .tidies))
+
+-- 32: over 16 server lines, or any two columns differ in length
 abbrev pub linesWrong : Order → Bool
-linesWrong o = ltb maxLines (length (o .calls)) || not (eqb (length (o .calls)) (length (o .caps)))
+linesWrong o = ltb maxLines (length (o .calls)) || not (columnsAgree o)
 
 -- 30: a form field out of range
 abbrev pub fieldWrong : Order → Bool
@@ -103,10 +115,14 @@ abbrev pub AllTrue : List Bool → Type 0
 AllTrue [] = Unit {0}
 AllTrue (b ∷ bs) = (b ≡ true) × AllTrue bs
 
+-- no two of the three columns differ in length
+abbrev pub Even : List ℤ → List ℤ → List ℤ → Type 0
+Even calls caps tidies = (length calls ≡ length caps) × (length calls ≡ length tidies)
+
 -- None of 32, 30 and 31 applies: at most 16 lines, in columns of one length; every field in its range; a budget within
 -- the period.
 pub record Fits (o : Order) : Type 0 where
   pub lines : length (o .calls) ≤ maxLines
-  pub columns : length (o .calls) ≡ length (o .caps)
+  pub columns : Even (o .calls) (o .caps) (o .tidies)
   pub fields : AllTrue (fieldsFit o)
   pub period : budgetOf o ≤ natAbs (o .period)

@@ -38,7 +38,7 @@ noClient = 10
 abbrev pub waitsAlready : ℕ
 waitsAlready = 11
 
--- run or reply on an idle server
+-- run or reply on an idle server, or reply while it tidies
 abbrev pub serverIdle : ℕ
 serverIdle = 12
 
@@ -46,7 +46,7 @@ serverIdle = 12
 abbrev pub runOfNone : ℕ
 runOfNone = 13
 
--- run would carry units served past L
+-- run would carry units served past L, or units tidied past W
 abbrev pub runPastCap : ℕ
 runPastCap = 14
 
@@ -62,13 +62,17 @@ bestEffort = 16
 abbrev pub spentAlready : ℕ
 spentAlready = 17
 
--- unknown event code, or a reply whose argument isn't 0
+-- unknown event code, or a reply or wait whose argument isn't 0
 abbrev pub unknownRecord : ℕ
 unknownRecord = 18
 
--- state not sound, or a run would carry a charge past 16,777,215
+-- state not sound, or a run would carry a charge past 33,554,431
 abbrev pub unsound : ℕ
 unsound = 19
+
+-- wait while the server isn't tidying
+abbrev pub notTidying : ℕ
+notTidying = 26
 
 -- OF A LOG
 
@@ -80,11 +84,11 @@ logShort = 20
 abbrev pub badMark : ℕ
 badMark = 21
 
--- version not 1
+-- version not 1 or 2
 abbrev pub badVersion : ℕ
 badVersion = 22
 
--- tables or last record cut
+-- W, tables or last record cut
 abbrev pub logCut : ℕ
 logCut = 23
 
@@ -106,6 +110,6 @@ fieldOut = 30
 abbrev pub overPeriod : ℕ
 overPeriod = 31
 
--- over 16 server lines, or the two columns differ in length
+-- over 16 server lines, or any two columns differ in length
 abbrev pub badLines : ℕ
 badLines = 32
