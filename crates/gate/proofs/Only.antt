@@ -1,20 +1,20 @@
 -- No second answer fits: the promises of the check of a setup, of the fresh gate and of a record each leave one result.
 -- Assumes nothing.
 use mathlib.Core.Bool.{cond}
-use mathlib.Core.Option.{Option, none, some}
 use mathlib.Core.Path.{_∙_, _≡_, ap, ap₂, refl, sym}
 use lib.Dec.{eqb}
 use Rattle.rules.specs.Events as rules
+use Rattle.rules.specs.Records as records
+use Rattle.rules.specs.Records.{known, replyReady, unknown}
 use Rattle.rules.specs.Refusals.{accepted, badClusters, badSize, manyClients, noCap}
 use Rattle.gate.specs.Heard.{heardIn}
 use Rattle.gate.specs.Made.{Made, Told, madeOf, told}
 use Rattle.gate.specs.Shown.{client}
-use Rattle.gate.specs.declared.Event.{Event}
-use Rattle.gate.specs.declared.Event.the-variants.{Abort, Invoke, Reply, Run}
+use Rattle.gate.specs.declared.Event.the-variants.{Abort, Invoke, Ready, Reply, Run}
 use Rattle.gate.specs.declared.Fresh.{Fresh}
 use Rattle.gate.specs.declared.Gate.{Gate}
 use Rattle.gate.specs.declared.Heard.{Heard}
-use Rattle.gate.specs.declared.Heard.the-variants.{Known, Unknown}
+use Rattle.gate.specs.declared.Heard.the-variants.{Known, ReplyReady, Unknown}
 use Rattle.gate.specs.declared.Verdict.{Verdict}
 use Rattle.gate.specs.declared.Verdict.the-variants.{Accepted, BadClusters, BadRow, BadSize, ManyClients, NoCap}
 
@@ -46,20 +46,24 @@ one-fresh a b e =
     (one-verdict (a .verdict) (b .verdict) (ap (λ (m : Made). m .told) e)) (ap (λ (m : Made). m .gate) e)
 
 -- the record that says it
-pub heardFor : Option rules.Event → Heard
-heardFor none = Unknown
-heardFor (some (rules.invoke c)) = Known (Invoke (client c))
-heardFor (some (rules.run n)) = Known (Run n)
-heardFor (some rules.reply) = Known Reply
-heardFor (some (rules.abort c)) = Known (Abort (client c))
+pub heardFor : records.Heard → Heard
+heardFor unknown = Unknown
+heardFor replyReady = ReplyReady
+heardFor (known (rules.invoke c)) = Known (Invoke (client c))
+heardFor (known (rules.run n)) = Known (Run n)
+heardFor (known rules.reply) = Known Reply
+heardFor (known (rules.abort c)) = Known (Abort (client c))
+heardFor (known rules.ready) = Known Ready
 
 pub heard-back : (h : Heard) → heardFor (heardIn h) ≡ h
 unfolding heardFor
 heard-back Unknown = refl
+heard-back ReplyReady = refl
 heard-back (Known (Invoke c)) = refl
 heard-back (Known (Run n)) = refl
 heard-back (Known Reply) = refl
 heard-back (Known (Abort c)) = refl
+heard-back (Known Ready) = refl
 
 pub one-heard : (a b : Heard) → heardIn a ≡ heardIn b → a ≡ b
 one-heard a b e = sym (heard-back a) ∙ ap heardFor e ∙ heard-back b

@@ -62,18 +62,20 @@ trimmedIn v = record {
   clusters = v .clusters;
   clients = v .clients;
   cap = v .cap;
+  tidy = v .tidy;
   sizes = zeroPast (v .clusters) (v .sizes);
   kinds = zeroPast (v .clients) (v .kinds);
   homes = zeroPast (v .clients) (v .homes);
   priorities = zeroPast (v .clients) (v .priorities);
 }
 
--- K, N and L 0, and all other numbers 0
+-- K, N, L and W 0, and all other numbers 0
 abbrev pub emptyBytes : Setup
 emptyBytes = record {
   clusters = 0;
   clients = 0;
   cap = 0;
+  tidy = 0;
   sizes = table maxClusters (λ (k : ℕ). 0);
   kinds = table maxClients (λ (c : ℕ). 0);
   homes = table maxClients (λ (c : ℕ). 0);

@@ -8,13 +8,13 @@ use lib.ListN.{getD}
 use Rattle.rules.specs.Limits.{maxClusters, maxSize, maxClients}
 use Rattle.rules.specs.Setup as rules
 use Rattle.rules.specs.State as rules-state
-use Rattle.rules.specs.State.{State, idle, front, best, spent}
+use Rattle.rules.specs.State.{State, idle, front, best, spent, tidying}
 use Rattle.sets.specs.Sets.{member, setOf}
 use Rattle.places.specs.Places.{pad, unpad}
 use Rattle.gate.specs.declared.Client.{Client}
 use Rattle.gate.specs.declared.Line.{Line}
 use Rattle.gate.specs.declared.Server.{Server}
-use Rattle.gate.specs.declared.Server.the-variants.{Idle, Front, Best, Spent}
+use Rattle.gate.specs.declared.Server.the-variants.{Idle, Front, Best, Spent, Tidying}
 use Rattle.gate.specs.declared.Setup.{Setup}
 use Rattle.gate.specs.declared.Gate.{Gate}
 
@@ -26,6 +26,7 @@ setupOf v = record {
   clusters = v .clusters;
   clients = v .clients;
   cap = v .cap;
+  tidy = v .tidy;
   size = λ (k : ℕ). getD (v .sizes) k 0;
   kind = λ (c : ℕ). getD (v .kinds) c 0;
   cluster = λ (c : ℕ). getD (v .homes) c 0;
@@ -37,6 +38,7 @@ serverOf Idle = idle
 serverOf (Front c) = front (c .0)
 serverOf (Best c) = best (c .0)
 serverOf (Spent c) = spent (c .0)
+serverOf Tidying = tidying
 
 abbrev pub blankLine : Line
 blankLine = record { places = [] }
@@ -68,6 +70,7 @@ showServer idle = Idle
 showServer (front c) = Front (client c)
 showServer (best c) = Best (client c)
 showServer (spent c) = Spent (client c)
+showServer tidying = Tidying
 
 -- eight lines of eight places
 abbrev pub showLines : (ℕ → List ℕ) → List Line

@@ -11,7 +11,8 @@ use borrow.Author.Tests.{eq-eqb, eqb-false, eqb-true, ne-eqb}
 use Rattle.rules.specs.Limits.{maxClients, maxClusters, maxSize, unusedPlace}
 use Rattle.rules.specs.Lists.{has, heads, remove, upd}
 use Rattle.rules.specs.State as rules
-use Rattle.rules.specs.State.{State, withBackground, withCharge, withGlobal, withLine, withRoom, withServer}
+use Rattle.rules.specs.State.{State}
+use Rattle.rules.specs.Changes.{withBackground, withCharge, withGlobal, withLine, withRoom, withServer}
 use Rattle.rules.proofs.Tests.{by-test, upd-at}
 use Rattle.sets.specs.Sets.{member, setOf}
 use Rattle.sets.proofs.Laws.{member-setOf, setOf-same, setOf-upd}

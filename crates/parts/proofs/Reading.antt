@@ -19,7 +19,7 @@ use Rattle.places.specs.Places.{pad, unpad, usedFirst}
 use Rattle.places.proofs.Pads.{unpad-pad, pad-unpad, unpad-fits, no-unused}
 use Rattle.gate.specs.declared.Line.{Line}
 use Rattle.gate.specs.declared.Server.{Server}
-use Rattle.gate.specs.declared.Server.the-variants.{Idle, Front, Best, Spent}
+use Rattle.gate.specs.declared.Server.the-variants.{Idle, Front, Best, Spent, Tidying}
 use Rattle.gate.specs.declared.Setup.{Setup}
 use Rattle.parts.specs.declared.Queues.{Queues}
 use Rattle.gate.specs.declared.Gate.{Gate}
@@ -36,6 +36,7 @@ show-server Idle = refl
 show-server (Front c) = refl
 show-server (Best c) = refl
 show-server (Spent c) = refl
+show-server Tidying = refl
 
 -- gates are equal whose parts are
 pub same-gate : {a a′ : Setup} {b b′ : List Line} {c c′ d d′ e e′ : List ℕ} {f f′ : Server} {g g′ : ℕ} {h h′ : List ℕ}

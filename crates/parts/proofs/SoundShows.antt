@@ -12,7 +12,7 @@ use Rattle.rules.specs.Limits.{maxClusters, maxClients}
 use Rattle.rules.specs.Lists.{has, heads, Distinct}
 use Rattle.rules.specs.Setup.{Accepted, Trimmed}
 use Rattle.rules.specs.State as state
-use Rattle.rules.specs.State.{State, idle, front, best, spent, fresh}
+use Rattle.rules.specs.State.{State, idle, front, best, spent, tidying, fresh}
 use Rattle.rules.specs.Sound.{Sound, ServerSound}
 use Rattle.rules.proofs.Tests.{by-test, not-so}
 use Rattle.rules.proofs.Lists.{heads-has, distinct-right}
@@ -34,6 +34,7 @@ server-back idle = refl
 server-back (front c) = refl
 server-back (best c) = refl
 server-back (spent c) = refl
+server-back tidying = refl
 
 module _ (v : Setup) where
   -- an accepted setup with zeros past N and K
@@ -81,6 +82,7 @@ module _ (v : Setup) where
     server-known (front c) k = front-known c k
     server-known (best c) k = known c (k .known)
     server-known (spent c) k = known c (k .known)
+    server-known tidying k = tt
 
     -- a sound state is shown
     pub sound-shows : Shows v s (shown v s)

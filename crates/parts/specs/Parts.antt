@@ -16,12 +16,13 @@ service x n = record { server = x; units = n }
 abbrev pub queues : List Line → List ℕ → List ℕ → List ℕ → Service → Queues
 queues ls rs gl bg y = record { lines = ls; rooms = rs; global = gl; background = bg; service = y }
 
--- the setup of K, N, L and the columns of the table
-abbrev pub setupWith : ℕ → ℕ → ℕ → List ℕ → List ℕ → List ℕ → List ℕ → Setup
-setupWith k n l ms ts hs ps = record {
+-- the setup of K, N, L, W and the columns of the table
+abbrev pub setupWith : ℕ → ℕ → ℕ → ℕ → List ℕ → List ℕ → List ℕ → List ℕ → Setup
+setupWith k n l w ms ts hs ps = record {
   clusters = k;
   clients = n;
   cap = l;
+  tidy = w;
   sizes = ms;
   kinds = ts;
   homes = hs;

@@ -9,7 +9,7 @@ use Rattle.rules.specs.Limits.{maxClusters, maxSize, maxClients}
 use Rattle.rules.specs.Lists.{has}
 use Rattle.rules.specs.Setup as rules-setup
 use Rattle.rules.specs.State as rules
-use Rattle.rules.specs.State.{State, idle, front, best, spent}
+use Rattle.rules.specs.State.{State, idle, front, best, spent, tidying}
 use Rattle.places.specs.Places.{pad}
 use Rattle.gate.specs.declared.Line.{Line}
 use Rattle.parts.specs.declared.Service.{Service}
@@ -60,6 +60,7 @@ ServerFits idle = Unit {0}
 ServerFits (front c) = c < maxClients
 ServerFits (best c) = c < maxClients
 ServerFits (spent c) = c < maxClients
+ServerFits tidying = Unit {0}
 
 pub record ShowsService (x : rules.Server) (n : ℕ) (y : Service) : Type 0 where
   pub server : serverOf (y .server) ≡ x

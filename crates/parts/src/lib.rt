@@ -7,7 +7,7 @@ use gate::Setup;
 ghost use mathlib.Core.Path.{_≡_};
 ghost use Rattle.parts.specs.Parts.{queuesOf, gateOf};
 
-// Who is in service, and the units served so far on that request.
+// Who is in service, and the units served so far on that request; while it tidies, the units tidied since the reply.
 pub struct Service {
     pub server: Server,
     pub units: u32,

@@ -38,6 +38,7 @@ ranked ps =
       clusters = 0;
       clients = 0;
       cap = 0;
+      tidy = 0;
       size = λ k. 0;
       kind = λ c. 0;
       cluster = λ c. 0;

@@ -4,9 +4,10 @@ use gate::Client;
 use gate::Cluster;
 use gate::Server;
 ghost use mathlib.Core.Path.{_≡_};
+ghost use mathlib.Core.Bool.{cond};
 ghost use lib.ListN.{length};
 ghost use Rattle.rules.specs.Limits.{maxClients};
-ghost use Rattle.rules.specs.State.{isIdle, serves, isFront, isSpent, blocks};
+ghost use Rattle.rules.specs.State.{isIdle, isTidying, isServing, serves, isFront, isSpent, blocks};
 ghost use Rattle.gate.specs.declared.Setup as given;
 ghost use Rattle.gate.specs.Shown.{setupOf, serverOf};
 ghost use Rattle.serving.specs.Service.{asFront, asSpent, servedBy};
@@ -19,6 +20,45 @@ pub fn is_idle(s: Server) -> bool
         Server::Front(_) => false,
         Server::Best(_) => false,
         Server::Spent(_) => false,
+        Server::Tidying => false,
+    }
+}
+
+pub fn is_tidying(s: Server) -> bool
+    ensures { λ r. ⌜ r ≡ isTidying (serverOf s) ⌝ }
+{
+    match s {
+        Server::Idle => false,
+        Server::Front(_) => false,
+        Server::Best(_) => false,
+        Server::Spent(_) => false,
+        Server::Tidying => true,
+    }
+}
+
+// Whether some client is in service.
+pub fn is_serving(s: Server) -> bool
+    ensures { λ r. ⌜ r ≡ isServing (serverOf s) ⌝ }
+{
+    match s {
+        Server::Idle => false,
+        Server::Front(_) => true,
+        Server::Best(_) => true,
+        Server::Spent(_) => true,
+        Server::Tidying => false,
+    }
+}
+
+// The cap of its units: W while it tidies, else L.
+pub fn cap_of(s: Server, cap: u16, tidy: u16) -> u16
+    ensures { λ r. ⌜ r ≡ cond (isTidying (serverOf s)) tidy cap ⌝ }
+{
+    match s {
+        Server::Idle => cap,
+        Server::Front(_) => cap,
+        Server::Best(_) => cap,
+        Server::Spent(_) => cap,
+        Server::Tidying => tidy,
     }
 }
 
@@ -31,6 +71,7 @@ pub fn as_front(s: Server) -> bool
         Server::Front(_) => true,
         Server::Best(_) => false,
         Server::Spent(_) => false,
+        Server::Tidying => false,
     }
 }
 
@@ -43,6 +84,7 @@ pub fn as_spent(s: Server) -> bool
         Server::Front(_) => false,
         Server::Best(_) => false,
         Server::Spent(_) => true,
+        Server::Tidying => false,
     }
 }
 
@@ -55,6 +97,7 @@ pub fn served(s: Server) -> Client
         Server::Front(c) => c,
         Server::Best(c) => c,
         Server::Spent(c) => c,
+        Server::Tidying => Client(0),
     }
 }
 
@@ -62,7 +105,7 @@ pub fn served(s: Server) -> Client
 pub fn serves(s: Server, c: usize) -> bool
     ensures { λ r. ⌜ r ≡ serves (serverOf s) c ⌝ }
 {
-    if is_idle(s) {
+    if !is_serving(s) {
         return false;
     }
     rows::index(served(s)) == c
