@@ -12,7 +12,7 @@ use borrow.Author.Tests.{eqb-true, ne-eqb, ltb-true, lt-ltb}
 use Rattle.rules.specs.Limits.{maxClusters, maxClients, unusedPlace}
 use Rattle.rules.specs.Lists.{heads, someBelow}
 use Rattle.rules.specs.Setup as rules
-use Rattle.rules.specs.State.{Server, idle, front, best, spent, isFront, blocks}
+use Rattle.rules.specs.State.{Server, idle, front, best, spent, tidying, isFront, blocks}
 use Rattle.rules.proofs.Tests.{by-test, clash, same-test, not-so, both-true}
 use Rattle.rules.proofs.Lists.{heads-has}
 use Rattle.rules.proofs.Counts.{none-below, some-not}
@@ -107,6 +107,7 @@ module _ (v : Setup) (fine : Fine v) (ls : List Line) (sound : linesSound (setup
       ≡ setOf maxClients (λ c. isFirst c && (not (isFront x c) && not (blocks u x (u .cluster c))))
   queued-is idle = firsts-are ∙ setOf-same maxClients _ _ (λ c l. sym (and-true (isFirst c)))
   queued-is (best d) = firsts-are ∙ setOf-same maxClients _ _ (λ c l. sym (and-true (isFirst c)))
+  queued-is tidying = firsts-are ∙ setOf-same maxClients _ _ (λ c l. sym (and-true (isFirst c)))
   queued-is (front d) =
       setOf-same maxClients _ _ (λ c l. rw (first-is c, flip c d) (out (eqb d c) (isFirst c)))
     where
@@ -127,3 +128,4 @@ queued-else homes own idle fronts e f = refl
 queued-else homes own (front c) fronts e f = clash refl e
 queued-else homes own (best c) fronts e f = refl
 queued-else homes own (spent c) fronts e f = clash refl f
+queued-else homes own tidying fronts e f = refl

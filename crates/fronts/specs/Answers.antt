@@ -1,14 +1,14 @@
 -- The fronts, as a set, in the global queue and in service: what the functions of this crate answer.
 -- Assumes nothing.
 use Prim.Native.Nat.{ℕ}
-use mathlib.Core.Bool.{Bool, false, _&&_}
+use mathlib.Core.Bool.{Bool, true, false, _&&_}
 use mathlib.Core.List.{List}
 use mathlib.Core.Option.{Option, some, none}
 use lib.Dec.{eqb}
 use lib.ListN.{getD}
 use Rattle.rules.specs.Limits.{maxClients}
 use Rattle.rules.specs.Lists.{someBelow}
-use Rattle.rules.specs.State.{Server, idle, front, best, spent}
+use Rattle.rules.specs.State.{Server, idle, front, best, spent, tidying}
 use Rattle.sets.specs.Sets.{member, setOf, withoutOf, lessOf}
 use Rattle.gate.specs.declared.Line.{Line}
 use Rattle.gate.specs.Shown.{blankLine}
@@ -32,6 +32,7 @@ queuedOf homes own idle fronts = fronts
 queuedOf homes own (front c) fronts = withoutOf fronts c
 queuedOf homes own (best c) fronts = fronts
 queuedOf homes own (spent c) fronts = lessOf fronts (getD own (getD homes c 0) 0)
+queuedOf homes own tidying fronts = fronts
 
 -- the queue holds each of them once, and nobody else
 abbrev pub globalFits : ℕ → List ℕ → Bool
@@ -45,3 +46,4 @@ serverFits cs homes rooms fronts standing units (front c) = member fronts c
 serverFits cs homes rooms fronts standing units (best c) = member (lessOf (cs .effort) standing) c
 serverFits cs homes rooms fronts standing units (spent c) =
     member (lessOf (lessOf (getD (cs .own) (getD homes c 0) 0) standing) (getD rooms (getD homes c 0) 0)) c
+serverFits cs homes rooms fronts standing units tidying = true

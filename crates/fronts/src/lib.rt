@@ -55,8 +55,9 @@ pub fn global_sound(q: &[u8], fronts: u64) -> bool
 
 // THE SERVER
 
-// Idle: nobody waits, and 0 units served. A front is one of the fronts. A best-effort client is in no queue. A spent
-// client is real-time, and neither in a line nor in its waiting room.
+// Idle: nobody waits, and 0 units served. Tidying: nobody is in service, and anybody may wait. A front is one of the
+// fronts. A best-effort client is in no queue. A spent client is real-time, and neither in a line nor in its waiting
+// room.
 pub fn server_sound(
     clients: Clients,
     homes: &[u8; 64],
@@ -74,6 +75,9 @@ pub fn server_sound(
             return false;
         }
         return stand == 0;
+    }
+    if serving::is_tidying(server) {
+        return true;
     }
     let c = rows::index(serving::served(server));
     if serving::as_front(server) {

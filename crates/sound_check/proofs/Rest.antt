@@ -11,7 +11,7 @@ use borrow.Author.Tests.{eq-eqb, lt-ltb}
 use Rattle.rules.specs.Limits.{maxClusters, maxClients}
 use Rattle.rules.specs.Setup as rules
 use Rattle.rules.specs.State as state
-use Rattle.rules.specs.State.{State, idle, front, best, spent}
+use Rattle.rules.specs.State.{State, idle, front, best, spent, tidying, capOf}
 use Rattle.rules.proofs.Tests.{by-test}
 use Rattle.rules.proofs.Setups.{Allowed, allowed}
 use Rattle.sets.specs.Sets.{member, lessOf}
@@ -37,6 +37,13 @@ use Rattle.standing.proofs.Rooms.{room-is}
 use Rattle.fronts.proofs.Fronts.{first-is}
 use Rattle.fronts.proofs.Globals.{global-is}
 
+-- of the arrays that the clauses are handed
+pub record Lengths (g : Gate) : Type 0 where
+  pub background : length (g .background) ≡ maxClients
+  pub global : length (g .global) ≡ maxClusters
+  pub charges : length (g .charges) ≡ maxClients
+  pub homes : length (g .setup .homes) ≡ maxClients
+
 -- a clause that is answered, before the others
 module _ {a r : Bool} (p : r ≡ a) where
   pub passes : {b : Bool} → r ≡ true → a && b ≡ b
@@ -51,7 +58,7 @@ restFits g cs fronts queue standing =
     roomsFit (g .setup .sizes) (cs .own) standing (g .lines) (g .rooms)
     && (globalFits queue (g .global)
     && (serverFits cs (g .setup .homes) (g .rooms) fronts standing (g .units) (serverOf (g .server))
-    && (leb (g .units) (g .setup .cap) && chargesFit (cs .real) (g .charges))))
+    && (leb (g .units) (capOf (setupOf (g .setup)) (serverOf (g .server))) && chargesFit (cs .real) (g .charges))))
 
 module _ (g : Gate) (e : setupSound (g .setup) ≡ true) where
   abbrev v : Setup
@@ -130,6 +137,7 @@ module _ (g : Gate) (e : setupSound (g .setup) ≡ true) where
         (by-test (isReal u c)
         (λ q. rw (q, eq-eqb k k refl, lt-ltb c maxClients (own-known v fine k c (rw (q, eq-eqb k k refl)))))
         (λ q. rw q))
+    server-is standing tidying = refl
 
     charges-are : chargesFit (cs .real) (g .charges) ≡ chargesSound u (g .charges)
     unfolding chargesFit chargesSound
@@ -150,10 +158,10 @@ module _ (g : Gate) (e : setupSound (g .setup) ≡ true) where
 
   -- AS FAR AS IT IS SEEN
 
-  module _ (n : length (g .background) ≡ maxClients) (found : Clients) (same : found ≡ cs) where
+  module _ (n : Lengths g) (found : Clients) (same : found ≡ cs) where
     pub by-lines : {a : Option ℕ} → a ≡ linesSeen (v .sizes) (found .own) (g .lines)
         → soundOf g ≡ thenTest (andThen a (queueSeen (member (found .effort)) (g .background))) (restSound u g s)
-    by-lines p = rw (p, same) (sound-is n)
+    by-lines p = rw (p, same) (sound-is (n .background))
 
     module _ {t : ℕ} (p : some t ≡ linesSeen (v .sizes) (found .own) (g .lines)) where
       pub by-queue : {b : Option ℕ} → b ≡ queueSeen (member (found .effort)) (g .background) t
@@ -161,8 +169,8 @@ module _ (g : Gate) (e : setupSound (g .setup) ≡ true) where
       by-queue q = by-lines p ∙ rw q
 
       pub by-rest : {z : ℕ} → some z ≡ queueSeen (member (found .effort)) (g .background) t
-          → length (g .global) ≡ maxClusters → {fronts queue : ℕ} → fronts ≡ firstsOf (g .lines) maxClusters
+          → {fronts queue : ℕ} → fronts ≡ firstsOf (g .lines) maxClusters
           → queue ≡ queuedOf (v .homes) (found .own) (serverOf (g .server)) fronts
           → soundOf g ≡ restFits g found fronts queue z
-      by-rest {z} q m f e =
-          by-queue q ∙ rw (e, f, same) (sym (rest-is t (rw same at (sym p)) m z))
+      by-rest {z} q f e =
+          by-queue q ∙ rw (e, f, same) (sym (rest-is t (rw same at (sym p)) (n .global) z))

@@ -68,7 +68,8 @@ pub fn sound(g: Gate) -> bool
     if !fronts::server_sound(clients, &s.homes, rooms, first, stand, server, g.units) {
         return false;
     }
-    if g.units > (s.cap as u32) {
+    let cap = serving::cap_of(server, s.cap, s.tidy);
+    if g.units > (cap as u32) {
         return false;
     }
     charges_sound(&g.charges, clients.real)

@@ -1,6 +1,6 @@
 -- The definition, tried on gates that are written out: each case computes. Document 01's setup, K = 1, m = 1, L = 10
 -- and four clients, the last of them best-effort: the gate after invoke 3, 2 and 1, and that with one thing wrong.
--- Where it takes two clusters, client 2 is of the second.
+-- Where it takes two clusters, client 2 is of the second. W is 20, or 5 where that is said.
 -- Assumes nothing.
 use Prim.Native.Nat.{ℕ, suc}
 use mathlib.Core.Path.{_≡_, refl}
@@ -14,7 +14,7 @@ use Rattle.sets.specs.Sets.{member, setOf}
 use Rattle.places.specs.Places.{pad, unpad, usedFirst, holdsOnly}
 use Rattle.gate.specs.declared.Setup.{Setup}
 use Rattle.gate.specs.declared.Server.{Server}
-use Rattle.gate.specs.declared.Server.the-variants.{Idle, Front, Best, Spent}
+use Rattle.gate.specs.declared.Server.the-variants.{Idle, Front, Best, Spent, Tidying}
 use Rattle.gate.specs.declared.Gate.{Gate}
 use Rattle.gate.specs.Shown.{stateOf, shown, table, client}
 use Rattle.soundness.specs.Tests.{every, allBelow, distinct, joined, setIn, firstIn}
@@ -22,17 +22,21 @@ use Rattle.soundness.specs.Clauses.{soundOf, setupSound, isTrimmed, laid
 use Rattle.soundness.specs.Clauses.{backgroundSound, roomSound, roomsSound, globalSound, chargesSound}
 use Rattle.soundness.specs.Clauses.{standSound, restSound}
 
--- K and the sizes, the cluster of client 2, and the priority of the row past N
-abbrev clustered : ℕ → List ℕ → ℕ → ℕ → Setup
-clustered n sizes home p = record {
+-- W, K and the sizes, the cluster of client 2, and the priority of the row past N
+abbrev capped : ℕ → ℕ → List ℕ → ℕ → ℕ → Setup
+capped w n sizes home p = record {
   clusters = n;
   clients = 4;
   cap = 10;
+  tidy = w;
   sizes = table 8 (λ (k : ℕ). getD sizes k 0);
   kinds = table 64 (λ (c : ℕ). cond (eqb c 3) 1 0);
   homes = table 64 (λ (c : ℕ). cond (eqb c 2) home 0);
   priorities = table 64 (λ (c : ℕ). cond (ltb c 3) (suc c) (cond (eqb c 4) p 0));
 }
+
+abbrev clustered : ℕ → List ℕ → ℕ → ℕ → Setup
+clustered n sizes home p = capped 20 n sizes home p
 
 -- of one cluster: its size, and the priority of the row past N
 abbrev setup : ℕ → ℕ → Setup
@@ -73,14 +77,25 @@ still server units c charge = gate (setup 1 0) (line []) 0 (line []) (queue []) 
 abbrev ok : Setup
 ok = setup 1 0
 
--- two clusters, with client 2 in the second; 3 is served
+-- two clusters, with client 2 in the second
+abbrev pair : Setup
+pair = clustered 2 (1 ∷ 1 ∷ []) 1 0
+
+-- 3 is served
 abbrev two : List (List ℕ) → List ℕ → List ℕ → Gate
-two lines rooms global = gateWith (clustered 2 (1 ∷ 1 ∷ []) 1 0) lines rooms global (queue []) (Best (client 3)) 10 1 30
+two lines rooms global = gateWith pair lines rooms global (queue []) (Best (client 3)) 10 1 30
 
 -- one cluster, and a line and a room past it; 3 is served
 abbrev past : List ℕ → ℕ → Gate
 past l room =
     gateWith ok (line (2 ∷ []) ∷ l ∷ []) (0 ∷ room ∷ []) (line (2 ∷ [])) (queue []) (Best (client 3)) 10 1 30
+
+-- it tidies: with the fronts of both clusters; with nobody waiting and a W of 5
+abbrev tidies : List ℕ → Gate
+tidies global = gateWith pair (line (0 ∷ []) ∷ line (2 ∷ []) ∷ []) (2 ∷ []) global (queue (3 ∷ [])) Tidying 20 1 30
+
+abbrev tidiesBriefly : ℕ → Gate
+tidiesBriefly units = gate (capped 5 1 (1 ∷ []) 0 0) (line []) 0 (line []) (queue []) Tidying units 1 30
 
 abbrev Tells : Gate → Bool → Type 0
 Tells g b = soundOf g ≡ b
@@ -90,7 +105,7 @@ sound-gates :
     × Tells (usual ok (line (2 ∷ [])) 2 (line (2 ∷ [])) (queue [])) true
     × Tells (gate ok (line (2 ∷ [])) 2 (line []) (queue (3 ∷ [])) (Front (client 2)) 10 1 30) true
     × Tells (gate ok (line (1 ∷ [])) 0 (line []) (queue (3 ∷ [])) (Spent (client 2)) 10 1 30) true
-    × Tells (still Idle 0 2 16777215) true × Tells (past (line []) 0) true
+    × Tells (still Idle 0 2 33554431) true × Tells (past (line []) 0) true
     × Tells (two (line (0 ∷ []) ∷ line (2 ∷ []) ∷ []) (2 ∷ []) (line (0 ∷ 2 ∷ []))) true
 unfolding setupAnswer member setOf pad unpad usedFirst holdsOnly stateOf shown table every allBelow distinct joined
     setIn firstIn soundOf setupSound isTrimmed laid lineSound linesSound backgroundSound roomSound roomsSound
@@ -136,7 +151,7 @@ unsound-gates :
     × Tells (still (Spent (client 3)) 0 1 30) false × Tells (still (Best (client 2)) 0 1 30) false
     × Tells (still (Best (client 4)) 0 1 30) false
     -- units over L; a charge over the limit, of a best-effort client, past N
-    × Tells (still (Best (client 3)) 11 1 30) false × Tells (still Idle 0 2 16777216) false
+    × Tells (still (Best (client 3)) 11 1 30) false × Tells (still Idle 0 2 33554432) false
     × Tells (still Idle 0 3 1) false × Tells (still Idle 0 4 1) false
 unfolding setupAnswer member setOf pad unpad usedFirst holdsOnly stateOf shown table every allBelow distinct joined
     setIn firstIn soundOf setupSound isTrimmed laid lineSound linesSound backgroundSound roomSound roomsSound
@@ -160,6 +175,46 @@ unsound-gates = (
   refl,
   refl,
   refl,
+  refl,
+  refl,
+  refl,
+  refl,
+  refl,
+  refl,
+  refl,
+  refl,
+  refl,
+  refl,
+  refl,
+  refl,
+  refl,
+  refl,
+  refl,
+  refl,
+  refl,
+)
+
+tidying-gates :
+    -- nobody waits: units from none up to W, past L too, and past W
+    Tells (still Tidying 0 1 30) true × Tells (still Tidying 11 1 30) true × Tells (still Tidying 20 1 30) true
+    × Tells (still Tidying 21 1 30) false
+    -- a W below L bounds them alone
+    × Tells (tidiesBriefly 5) true × Tells (tidiesBriefly 6) false
+    -- W has 16 bits
+    × Tells (shown (capped 65535 1 (1 ∷ []) 0 0) fresh) true × Tells (shown (capped 65536 1 (1 ∷ []) 0 0) fresh) false
+    -- L bounds those of a service, whatever W is
+    × Tells (still (Best (client 3)) 10 1 30) true × Tells (still (Best (client 3)) 20 1 30) false
+    -- somebody waits: best-effort; a front, in the global queue or missing there; two fronts, in either order, or one
+    -- of them missing; one who is no front
+    × Tells (gate ok (line []) 0 (line []) (queue (3 ∷ [])) Tidying 0 1 30) true
+    × Tells (gate ok (line (2 ∷ [])) 2 (line (2 ∷ [])) (queue (3 ∷ [])) Tidying 20 1 30) true
+    × Tells (gate ok (line (2 ∷ [])) 2 (line []) (queue (3 ∷ [])) Tidying 20 1 30) false
+    × Tells (tidies (line (0 ∷ 2 ∷ []))) true × Tells (tidies (line (2 ∷ 0 ∷ []))) true
+    × Tells (tidies (line (2 ∷ []))) false × Tells (tidies (line (0 ∷ 2 ∷ 1 ∷ []))) false
+unfolding setupAnswer member setOf pad unpad usedFirst holdsOnly stateOf shown table every allBelow distinct joined
+    setIn firstIn soundOf setupSound isTrimmed laid lineSound linesSound backgroundSound roomSound roomsSound
+    globalSound chargesSound standSound restSound
+tidying-gates = (
   refl,
   refl,
   refl,

@@ -5,7 +5,7 @@ use mathlib.Core.Path.{_≡_, refl, sym}
 use mathlib.Core.Bool.{true, false, _&&_}
 use lib.Dec.{eqb}
 use borrow.Author.Tests.{eqb-true}
-use Rattle.rules.specs.Limits.{maxCap}
+use Rattle.rules.specs.Limits.{maxCap, maxTidy}
 use Rattle.rules.specs.Refusals.{accepted}
 use Rattle.rules.specs.Setup.{setupAnswer, Accepted, Trimmed}
 use Rattle.rules.specs.State.{State, fresh}
@@ -89,12 +89,13 @@ pub empty-fails : soundOf emptyGate ≡ false
 unfolding soundOf setupSound setupAnswer emptyGate shown
 empty-fails = refl
 
--- A fresh gate is sound exactly if its setup is accepted. L is a number of 16 bits.
-pub fresh-exact : (v : Setup) → v .cap ≤ maxCap → soundOf (made v .gate) ≡ eqb (setupAnswer (setupOf v)) accepted
+-- A fresh gate is sound exactly if its setup is accepted. L and W are numbers of 16 bits.
+pub fresh-exact : (v : Setup) → v .cap ≤ maxCap → v .tidy ≤ maxTidy
+    → soundOf (made v .gate) ≡ eqb (setupAnswer (setupOf v)) accepted
 unfolding made freshGate
-fresh-exact v b =
+fresh-exact v b d =
     by-test (eqb (setupAnswer (setupOf v)) accepted)
     (λ e. rw e
     (shown-passes (trimmedIn v) fresh (fresh-sound v
-    (record { no-refusal = eqb-true (setupAnswer (setupOf v)) accepted e; sixteen-bits = b }))))
+    (record { no-refusal = eqb-true (setupAnswer (setupOf v)) accepted e; sixteen-bits = b; tidy-bits = d }))))
     (λ e. rw e empty-fails)

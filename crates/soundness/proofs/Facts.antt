@@ -7,12 +7,12 @@ use mathlib.Core.List.{List}
 use lib.Dec.{eqb, ltb, leb}
 use lib.ListN.{length, getD, drop}
 use borrow.Author.Tests.{eqb-true, eq-eqb, ltb-true, ltb-false, lt-ltb, leb-true, le-leb, not-true}
-use Rattle.rules.specs.Limits.{maxClusters, maxSize, maxCap}
+use Rattle.rules.specs.Limits.{maxClusters, maxSize, maxCap, maxTidy}
 use Rattle.rules.specs.Lists.{has}
 use Rattle.rules.specs.Refusals.{accepted}
 use Rattle.rules.specs.Setup as rules
 use Rattle.rules.specs.Setup.{realTime, setupAnswer, Accepted, Trimmed}
-use Rattle.rules.specs.State.{State}
+use Rattle.rules.specs.State.{State, capOf}
 use Rattle.rules.proofs.Tests.{by-test, clash, either-true, both-true}
 use Rattle.sets.specs.Sets.{member}
 use Rattle.sets.proofs.Bits.{member-past, member-none}
@@ -36,7 +36,7 @@ pub record Clauses (u : rules.Setup) (g : Gate) (s : State) (all : List ℕ) : T
   pub rooms : roomsSound u (setIn all) (s .lines) (g .rooms) ≡ true
   pub global : globalSound u s (g .global) ≡ true
   pub server : serverSound u (setIn all) s (s .server) ≡ true
-  pub units : leb (s .units) (u .cap) ≡ true
+  pub units : leb (s .units) (capOf u (s .server)) ≡ true
   pub charges : chargesSound u (g .charges) ≡ true
 
 module _ (u : rules.Setup) (g : Gate) (s : State) (all : List ℕ) where
@@ -49,7 +49,7 @@ module _ (u : rules.Setup) (g : Gate) (s : State) (all : List ℕ) where
       let d = both-true (roomsSound u (setIn all) (s .lines) (g .rooms)) _ q in
       let f = both-true (globalSound u s (g .global)) _ (d .1) in
       let h = both-true (serverSound u (setIn all) s (s .server)) _ (f .1) in
-      let i = both-true (leb (s .units) (u .cap)) (chargesSound u (g .charges)) (h .1) in
+      let i = both-true (leb (s .units) (capOf u (s .server))) (chargesSound u (g .charges)) (h .1) in
       record {
         lines = a .0;
         background = b .0;
@@ -76,14 +76,17 @@ module _ (v : Setup) where
   unfolding setupSound isTrimmed
   setup-facts e =
       let answered : Bool = eqb (setupAnswer (setupOf v)) accepted in
-      let a = both-true (answered && leb (v .cap) maxCap) (isTrimmed v) e in
-      let b = both-true answered (leb (v .cap) maxCap) (a .0) in
+      let caps : Bool = leb (v .cap) maxCap && leb (v .tidy) maxTidy in
+      let a = both-true (answered && caps) (isTrimmed v) e in
+      let b = both-true answered caps (a .0) in
+      let w = both-true (leb (v .cap) maxCap) (leb (v .tidy) maxTidy) (b .1) in
       let c = both-true (zeros (drop (v .clusters) (v .sizes))) _ (a .1) in
       let d = both-true (zeros (drop (v .clients) (v .kinds))) _ (c .1) in
       let f = both-true (zeros (drop (v .clients) (v .homes))) (zeros (drop (v .clients) (v .priorities))) (d .1) in (
         record {
           no-refusal = eqb-true (setupAnswer (setupOf v)) accepted (b .0);
-          sixteen-bits = leb-true (v .cap) maxCap (b .1);
+          sixteen-bits = leb-true (v .cap) maxCap (w .0);
+          tidy-bits = leb-true (v .tidy) maxTidy (w .1);
         },
         record {
           sizes = zeros-past (v .clusters) (v .sizes) (c .0);
@@ -99,6 +102,7 @@ module _ (v : Setup) where
       rw (
         a .no-refusal,
         le-leb (v .cap) maxCap (a .sixteen-bits),
+        le-leb (v .tidy) maxTidy (a .tidy-bits),
         past-zeros (v .clusters) (v .sizes) (t .sizes),
         past-zeros (v .clients) (v .kinds) (t .kinds),
         past-zeros (v .clients) (v .homes) (t .homes),

@@ -13,7 +13,7 @@ use Rattle.rules.specs.Lists.{has, heads}
 use Rattle.rules.specs.Setup as rules
 use Rattle.rules.specs.Setup.{realTime}
 use Rattle.rules.specs.State as state
-use Rattle.rules.specs.State.{State, idle, front, best, spent}
+use Rattle.rules.specs.State.{State, idle, front, best, spent, tidying, capOf}
 use Rattle.rules.specs.Queues.{inRoom}
 use Rattle.rules.specs.Sound.{Sound, ServerSound, queued}
 use Rattle.rules.proofs.Tests.{by-test, clash, not-so, both-true}
@@ -150,6 +150,7 @@ module _ (v : Setup) (s : State) (h : Sound (setupOf v) s) where
         no-place c (k .apart) (stands.real-apart v s h c (k .real)),
         k .out,
       )
+  server-pass tidying k = refl
 
   -- CHARGES
 
@@ -177,6 +178,6 @@ module _ (v : Setup) (s : State) (h : Sound (setupOf v) s) where
         rooms = rooms-pass;
         global = global-pass;
         server = server-pass (s .server) (h .server);
-        units = le-leb (s .units) (u .cap) (h .units);
+        units = le-leb (s .units) (capOf u (s .server)) (h .units);
         charges = charges-pass;
       }

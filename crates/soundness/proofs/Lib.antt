@@ -8,4 +8,5 @@ pub mod ToSound
 pub mod ShownStands
 pub mod FromSound
 pub mod Exact
+pub mod Tidying
 pub mod Cases

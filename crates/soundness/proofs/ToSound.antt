@@ -15,7 +15,7 @@ use Rattle.rules.specs.Lists.{has, heads, Distinct}
 use Rattle.rules.specs.Setup as rules
 use Rattle.rules.specs.Setup.{realTime, Accepted, Trimmed}
 use Rattle.rules.specs.State as state
-use Rattle.rules.specs.State.{State, idle, front, best, spent}
+use Rattle.rules.specs.State.{State, idle, front, best, spent, tidying, capOf}
 use Rattle.rules.specs.Sound.{Sound, LineSound, RoomSound, ServerSound, queued}
 use Rattle.rules.proofs.Tests.{by-test, clash, not-so, both-true, same-test}
 use Rattle.rules.proofs.Lists.{has-none, heads-has, heads-cons}
@@ -178,6 +178,7 @@ module _ (g : Gate) (a : Accepted (setupOf (g .setup))) (t : Trimmed (setupOf (g
         },
         omega (arith, ltb-true d (u .clients) (x .0), ok .few-clients),
       )
+  server tidying e = (tt, tt)
 
   -- TOGETHER
 
@@ -195,7 +196,7 @@ module _ (g : Gate) (a : Accepted (setupOf (g .setup))) (t : Trimmed (setupOf (g
         global-once = global-facts .once;
         background = stands.background-facts g a t c .1;
         server = server (s .server) (c .server) .0;
-        units = leb-true (s .units) (u .cap) (c .units);
+        units = leb-true (s .units) (capOf u (s .server)) (c .units);
         charge = stands.charge-facts g a t c .1;
       }
 

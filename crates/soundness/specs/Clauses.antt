@@ -1,17 +1,17 @@
 -- Which gates are sound: document 01's definition as one test, a clause of it under each of its sentences.
 -- Assumes nothing.
 use Prim.Native.Nat.{ℕ, _^_}
-use mathlib.Core.Bool.{Bool, not, _&&_, _||_}
+use mathlib.Core.Bool.{Bool, true, not, _&&_, _||_}
 use mathlib.Core.List.{List, _++_}
 use lib.Dec.{eqb, ltb, leb}
 use lib.ListN.{length, getD, drop}
-use Rattle.rules.specs.Limits.{maxClusters, maxSize, maxClients, maxCap, maxCharge}
+use Rattle.rules.specs.Limits.{maxClusters, maxSize, maxClients, maxCap, maxTidy, maxCharge}
 use Rattle.rules.specs.Lists.{heads}
 use Rattle.rules.specs.Refusals.{accepted}
 use Rattle.rules.specs.Setup as rules
 use Rattle.rules.specs.Setup.{realTime, setupAnswer}
 use Rattle.rules.specs.State as state
-use Rattle.rules.specs.State.{State, idle, front, best, spent}
+use Rattle.rules.specs.State.{State, idle, front, best, spent, tidying, capOf}
 use Rattle.rules.specs.Sound.{queued}
 use Rattle.sets.specs.Sets.{member}
 use Rattle.places.specs.Places.{unpad, usedFirst}
@@ -30,9 +30,10 @@ isTrimmed v =
     && (zeros (drop (v .clients) (v .kinds))
     && (zeros (drop (v .clients) (v .homes)) && zeros (drop (v .clients) (v .priorities))))
 
--- The setup would be accepted. L is a number of 16 bits.
+-- The setup would be accepted. L and W are numbers of 16 bits.
 unfoldable pub setupSound : Setup → Bool
-setupSound v = (eqb (setupAnswer (setupOf v)) accepted && leb (v .cap) maxCap) && isTrimmed v
+setupSound v =
+    (eqb (setupAnswer (setupOf v)) accepted && (leb (v .cap) maxCap && leb (v .tidy) maxTidy)) && isTrimmed v
 
 -- LINES AND QUEUES
 
@@ -102,16 +103,17 @@ module _ (u : rules.Setup) where
 
   -- Idle: nobody waits, and 0 units served. No line is full then, so the waiting rooms are empty too.
   -- A front in service is the front of its line. A best-effort client in service is in no queue. A spent client is
-  -- real-time, and neither in a line nor in its waiting room.
+  -- real-time, and neither in a line nor in its waiting room. Tidying: nobody is in service, and anybody may wait.
   abbrev pub serverSound : ℕ → State → state.Server → Bool
   serverSound standing s idle = eqb (s .units) 0 && eqb standing 0
   serverSound standing s (front c) = ltb c (u .clients) && heads c (s .lines (u .cluster c))
   serverSound standing s (best c) = ofBackground c && not (member standing c)
   serverSound standing s (spent c) = isReal c && (not (member standing c) && not (s .room c))
+  serverSound standing s tidying = true
 
   -- CHARGES
 
-  -- No charge is over 16,777,215; best-effort charges and those past N are 0.
+  -- No charge is over 33,554,431; best-effort charges and those past N are 0.
   abbrev pub chargeSound : ℕ → ℕ → Bool
   chargeSound c n = leb n maxCharge && (isReal c || eqb n 0)
 
@@ -125,13 +127,14 @@ module _ (u : rules.Setup) where
   unfoldable pub standSound : List Line → List ℕ → List ℕ → Bool
   standSound lines background all = linesSound lines && (backgroundSound background && distinct all)
 
-  -- The rest, with the set of everyone who stands in a line or queue. Units served are at most L.
+  -- The rest, with the set of everyone who stands in a line or queue. Units served are at most L; while the server
+  -- tidies they are the units tidied, at most W, and L doesn't bound them.
   unfoldable pub restSound : Gate → State → ℕ → Bool
   restSound g s standing =
       roomsSound standing (s .lines) (g .rooms)
       && (globalSound s (g .global)
       && (serverSound standing s (s .server)
-      && (leb (s .units) (u .cap) && chargesSound (g .charges))))
+      && (leb (s .units) (capOf u (s .server)) && chargesSound (g .charges))))
 
 -- A gate is sound if its setup is, and its places and its state are.
 unfoldable pub soundOf : Gate → Bool

@@ -6,9 +6,8 @@ use native.Mathlib.Omega.{arith}
 use borrow.Author.Needs.{needs}
 use borrow.Author.Tests.{eq-eqb, ne-eqb}
 use Rattle.rules.specs.Limits.{maxClusters}
-use Rattle.serving.proofs.Service.{as-front, as-spent}
 use Rattle.gate.specs.Shown.{serverOf}
-use Rattle.serving.proofs.Service.{is-idle, is-best}
+use Rattle.serving.proofs.Service.{as-front, as-spent, is-idle, is-tidying, is-serving, is-best}
 use Rattle.fronts.proofs.server_sound.Statement.{statement}
 use Rattle.fronts.proofs.server_sound.Tie as tie
 
@@ -31,6 +30,14 @@ returns-2 c =
       eq-eqb _ 0 (c .if2 .left),
     )
 
+is-tidying-requires : tie.Need-is-tidying-requires
+is-tidying-requires c κs = search needs
+
+returns-3 : tie.Need-returns-3
+returns-3 c =
+    let t = c .before in
+    rw (is-tidying (serverOf (t .before .before .before .args .server)) (sym (t .is-tidying .ensures) ∙ c .if3 .taken))
+
 served-requires : tie.Need-served-requires
 served-requires c κs = search needs
 
@@ -43,16 +50,16 @@ as-front-requires c κs = search needs
 member-requires : tie.Need-member-requires
 member-requires c κs = search needs
 
-returns-3 : tie.Need-returns-3
-returns-3 c =
+returns-4 : tie.Need-returns-4
+returns-4 c =
     let f = c .before .before in
     let s = f .before .before in
     rw (
       c .member .ensures,
       f .before .index .ensures,
       s .served .ensures,
-      as-front (serverOf (s .before .before .before .args .server))
-          (sym (f .as-front .ensures) ∙ c .before .if3 .taken),
+      as-front (serverOf (s .before .before .before .before .before .args .server))
+          (sym (f .as-front .ensures) ∙ c .before .if4 .taken),
     )
 
 as-spent-requires : tie.Need-as-spent-requires
@@ -64,7 +71,8 @@ cluster-of-requires c κs = search needs
 low : (c : tie.After-cluster-of) → c .cluster-of .result .0 < maxClusters
 low c =
     let i = c .before .before .before .before .before in
-    omega (arith, c .cluster-of .ensures, i .before .before .before .before .pre .low (i .index .result))
+    let s = i .before in
+    omega (arith, c .cluster-of .ensures, s .before .before .before .before .before .pre .low (i .index .result))
 
 mul-less : tie.Need-mul-less
 mul-less c = record { fits = omega (arith, low c) }
@@ -87,21 +95,22 @@ less-requires-2 c κs = search needs
 member-requires-2 : tie.Need-member-requires-2
 member-requires-2 c κs = search needs
 
-returns-4 : tie.Need-returns-4
-returns-4 c =
+returns-5 : tie.Need-returns-5
+returns-5 c =
     let l = c .before .before in
     let k = l .before .before in
     let p = k .before .before in
     let i = p .before .before .before in
+    let s = i .before in
     rw (
       c .member2 .ensures,
       c .before .less2 .ensures,
       l .less .ensures,
       k .cluster-of .ensures,
       i .index .ensures,
-      i .before .served .ensures,
-      as-spent (serverOf (i .before .before .before .before .args .server))
-          (sym (p .as-spent .ensures) ∙ k .before .if4 .taken),
+      s .served .ensures,
+      as-spent (serverOf (s .before .before .before .before .before .args .server))
+          (sym (p .as-spent .ensures) ∙ k .before .if5 .taken),
     )
 
 less-requires-3 : tie.Need-less-requires-3
@@ -110,20 +119,24 @@ less-requires-3 c κs = search needs
 member-requires-3 : tie.Need-member-requires-3
 member-requires-3 c κs = search needs
 
-returns-5 : tie.Need-returns-5
-returns-5 c =
+returns-6 : tie.Need-returns-6
+returns-6 c =
     let p = c .before .before .before in
     let f = p .before .before in
     let s = f .before .before in
-    let i = s .before .before in
+    let t = s .before .before in
+    let i = t .before .before in
+    let server = serverOf (i .before .args .server) in
     rw (
       c .member3 .ensures,
       c .before .less3 .ensures,
       f .before .index .ensures,
       s .served .ensures,
-      is-best (serverOf (i .before .args .server)) (sym (i .is-idle .ensures) ∙ s .before .if1 .left)
-          (sym (f .as-front .ensures) ∙ p .before .if3 .left)
-          (sym (p .as-spent .ensures) ∙ c .before .before .if4 .left),
+      is-best server
+          (is-serving server (sym (i .is-idle .ensures) ∙ t .before .if1 .left)
+          (sym (t .is-tidying .ensures) ∙ s .before .if3 .left))
+          (sym (f .as-front .ensures) ∙ p .before .if4 .left)
+          (sym (p .as-spent .ensures) ∙ c .before .before .if5 .left),
     )
 
 pub server-sound-spec : {M : Type 1} → statement M
@@ -133,11 +146,13 @@ server-sound-spec =
     is-idle-requires
     returns
     returns-2
+    is-tidying-requires
+    returns-3
     served-requires
     index-requires
     as-front-requires
     member-requires
-    returns-3
+    returns-4
     as-spent-requires
     cluster-of-requires
     mul-less
@@ -147,7 +162,7 @@ server-sound-spec =
     array-read-less
     less-requires-2
     member-requires-2
-    returns-4
+    returns-5
     less-requires-3
     member-requires-3
-    returns-5)
+    returns-6)

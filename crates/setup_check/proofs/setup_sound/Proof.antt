@@ -4,7 +4,7 @@ use mathlib.Core.Path.{sym, ap, _∙_}
 use lib.Dec.{eqb}
 use borrow.Author.Needs.{needs}
 use borrow.Author.Tests.{not-true, not-false, le-leb}
-use Rattle.rules.specs.Limits.{maxCap}
+use Rattle.rules.specs.Limits.{maxCap, maxTidy}
 use Rattle.rules.specs.Refusals.{accepted}
 use Rattle.gate.specs.Made.{Told, verdictOf}
 use Rattle.soundness.specs.Clauses.{setupSound, isTrimmed}
@@ -44,6 +44,7 @@ returns-2 c =
       sym (ap (λ (t : Told). eqb (t .number) accepted) (i .before .before .setup-verdict .ensures))
           ∙ sym (i .before .is-accepted .ensures) ∙ not-false _ (i .if1 .left),
       le-leb (s .cap) maxCap (search needs),
+      le-leb (s .tidy) maxTidy (search needs),
     ) (rw (c .before .wide2 .ensures, w .wide .ensures) at (c .is-trimmed .ensures))
 
 pub setup-sound-spec : {M : Type 1} → statement M

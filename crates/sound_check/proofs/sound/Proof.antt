@@ -6,19 +6,19 @@ use mathlib.Core.Bool.{true, _&&_}
 use mathlib.Core.Option.{some}
 use native.Mathlib.Omega.{arith}
 use lib.Dec.{leb}
-use lib.ListN.{length}
 use borrow.Author.Tests.{not-true, not-false, lt-leb, le-leb}
 use borrow.Author.Needs.{needs}
-use Rattle.rules.specs.Limits.{maxClusters, maxClients}
+use Rattle.rules.specs.Limits.{maxClusters}
+use Rattle.rules.specs.State.{capOf}
 use Rattle.gate.specs.declared.Gate.{Gate}
-use Rattle.gate.specs.Shown.{serverOf}
+use Rattle.gate.specs.Shown.{setupOf, serverOf}
 use Rattle.parts.specs.Shows.{Homes}
 use Rattle.soundness.specs.Clauses.{setupSound, soundOf}
 use Rattle.standing.specs.Answers.{seenOf, linesSeen}
 use Rattle.fronts.specs.Answers.{firstsOf, queuedOf, serverFits}
 use Rattle.sound_check.specs.Answers.{chargesFit}
 use Rattle.setup_check.proofs.Members.{clients}
-use Rattle.sound_check.proofs.Rest.{passes, fails, ok, fine, restFits, by-lines, by-queue, by-rest}
+use Rattle.sound_check.proofs.Rest.{Lengths, passes, fails, fine, restFits, by-lines, by-queue, by-rest}
 use Rattle.sound_check.proofs.sound.Statement.{statement}
 use Rattle.sound_check.proofs.sound.Tie as tie
 
@@ -33,12 +33,6 @@ wide-requires : tie.Need-wide-requires
 wide-requires c κs = search needs
 
 -- THE SETUP
-
-record Lengths (g : Gate) : Type 0 where
-  background : length (g .background) ≡ maxClients
-  global : length (g .global) ≡ maxClusters
-  charges : length (g .charges) ≡ maxClients
-  homes : length (g .setup .homes) ≡ maxClients
 
 lengths : (c : tie.After-setup-sound) → Lengths (c .before .before .args .t1)
 lengths c = record { background = search needs; global = search needs; charges = search needs; homes = search needs }
@@ -81,7 +75,7 @@ returns-2 c =
     let l = c .before .before in
     let k = l .before .before .before .before .before in
     let w = k .before in
-    sym (by-lines (given w) (setup-is w) (lengths (begun w) .background) (k .clients-below .result) (clients-are k)
+    sym (by-lines (given w) (setup-is w) (lengths (begun w)) (k .clients-below .result) (clients-are k)
     (sym (ap seenOf (c .enum-told .given .1)) ∙ l .lines-seen .ensures))
 
 queue-seen-requires : tie.Need-queue-seen-requires
@@ -113,7 +107,7 @@ returns-3 c =
     let q = c .before .before in
     let k = sets-of q in
     let w = k .before in
-    sym (by-queue (given w) (setup-is w) (lengths (begun w) .background) (k .clients-below .result) (clients-are k)
+    sym (by-queue (given w) (setup-is w) (lengths (begun w)) (k .clients-below .result) (clients-are k)
     (lines-told q) (sym (ap seenOf (c .enum-told2 .given .1)) ∙ q .queue-seen .ensures))
 
 -- THE REST
@@ -140,8 +134,8 @@ by-sets c =
     let q = c .before .before in
     let k = sets-of q in
     let w = k .before in
-    by-rest (given w) (setup-is w) (lengths (begun w) .background) (k .clients-below .result) (clients-are k)
-    (lines-told q) (sym (ap seenOf (c .stand .given .1)) ∙ q .queue-seen .ensures) (lengths (begun w) .global)
+    by-rest (given w) (setup-is w) (lengths (begun w)) (k .clients-below .result) (clients-are k)
+    (lines-told q) (sym (ap seenOf (c .stand .given .1)) ∙ q .queue-seen .ensures)
 
 rooms-sound-requires : tie.Need-rooms-sound-requires
 rooms-sound-requires c κs = search needs
@@ -177,7 +171,8 @@ by-global : (c : tie.Else3)
     let g = given (k .before) in
     soundOf g ≡ serverFits (k .clients-below .result) (g .setup .homes) (g .rooms) (f .firsts .result)
     (d .stand .given .0 .0) (g .units) (serverOf (g .server))
-    && (leb (g .units) (g .setup .cap) && chargesFit (k .clients-below .result .real) (g .charges))
+    && (leb (g .units) (capOf (setupOf (g .setup)) (serverOf (g .server)))
+    && chargesFit (k .clients-below .result .real) (g .charges))
 by-global c =
     let q = c .before .before .before .before .before in
     let f = q .before .before .before in
@@ -194,28 +189,34 @@ returns-6 c =
     sym (by-global (c .before .before .before .before)
     ∙ fails (c .before .server-sound .ensures) (not-true _ (c .if4 .taken)) _)
 
+cap-of-requires : tie.Need-cap-of-requires
+cap-of-requires c κs = search needs
+
 cast-if5 : tie.Need-cast-if5
-cast-if5 c =
-    let w = wide-of (rooms-of (global-of c)) in
-    record { fits = omega (arith, ok (given w) (setup-is w) .small-cap) }
+cast-if5 c = search needs
+
+-- and behind the test of the server
+by-server : (c : tie.After-cap-of)
+    → let r = rooms-of (global-of (c .before)) in
+    let k = sets-of (stand-of r .before .before) in
+    let g = given (k .before) in
+    soundOf g ≡ leb (g .units) (c .cap-of .result) && chargesFit (k .clients-below .result .real) (g .charges)
+by-server c =
+    let v = c .before in
+    rw (c .cap-of .ensures)
+    (by-global (global-of v) ∙ passes (v .before .server-sound .ensures) (not-false _ (v .if4 .left)))
 
 returns-7 : tie.Need-returns-7
-returns-7 c =
-    let v = c .before in
-    sym (by-global (global-of v)
-    ∙ passes (v .before .server-sound .ensures) (not-false _ (v .if4 .left))
-    ∙ fails refl (lt-leb _ _ (c .if5 .taken)) _)
+returns-7 c = sym (by-server (c .before) ∙ fails refl (lt-leb _ _ (c .if5 .taken)) _)
 
 charges-sound-requires : tie.Need-charges-sound-requires
-charges-sound-requires c κs = lengths (begun (wide-of (rooms-of (global-of (c .before .before .before))))) .charges
+charges-sound-requires c κs =
+    lengths (begun (wide-of (rooms-of (global-of (c .before .before .before .before))))) .charges
 
 returns-8 : tie.Need-returns-8
 returns-8 c =
     let n = c .before .before .before in
-    let v = n .before in
-    sym (by-global (global-of v)
-    ∙ passes (v .before .server-sound .ensures) (not-false _ (v .if4 .left)) ∙ passes refl (le-leb _ _ (n .if5 .left))
-    ∙ sym (c .charges-sound .ensures))
+    sym (by-server (n .before) ∙ passes refl (le-leb _ _ (n .if5 .left)) ∙ sym (c .charges-sound .ensures))
 
 pub sound-spec : {M : Type 1} → statement M
 sound-spec =
@@ -241,6 +242,7 @@ sound-spec =
     returns-5
     server-sound-requires
     returns-6
+    cap-of-requires
     cast-if5
     returns-7
     charges-sound-requires
