@@ -3,12 +3,14 @@
 use Prim.Native.Nat.{ℕ}
 use mathlib.Core.List.{List}
 use mathlib.Core.Path.{_∙_, _≡_, sym}
-use borrow.Author.Tests.{eq-eqb, ne-eqb}
+use borrow.Author.Tests.{eq-eqb}
 use Rattle.rules.specs.Events.{Event}
 use Rattle.rules.specs.Limits.{maxClients}
 use Rattle.rules.specs.Refusals.{accepted}
 use Rattle.rules.specs.State.{State}
 use Rattle.rules.specs.Step.{answer, next, step}
+use Rattle.rules.specs.Records.{Heard, known, answerOf}
+use Rattle.rules.proofs.Theorems.{refused-same}
 use Rattle.gate.specs.Shown.{setupOf, table}
 use Rattle.parts.specs.Shows.{Fine, ShowsQueues}
 use Rattle.parts.specs.declared.Queues.{Queues}
@@ -22,17 +24,16 @@ module _ {v : Setup} {s : State} {q : Queues} {cs : List ℕ} (h : Holds v s q c
   pub fine : Fine v
   fine = accepted-fine v (h .sound .setup) (h .sound .trimmed)
 
-  pub refuses : (e : Event) (a : Answer) → answer (setupOf v) s e ≡ numberOf a → (numberOf a ≡ accepted → ⊥)
-      → Answers v s e (record { answer = a; queues = q }) cs
-  unfolding step
-  refuses e a z n =
-      let w = ne-eqb (answer (setupOf v) s e) accepted (λ y. n (sym z ∙ y)) in
-      record { number = sym z; queues = rw w (h .queues); charges = rw w (h .charges) }
+  pub refuses : (x : Heard) (a : Answer) → answerOf (setupOf v) s x ≡ numberOf a → (numberOf a ≡ accepted → ⊥)
+      → Answers v s x (record { answer = a; queues = q }) cs
+  refuses x a z n =
+      let same = refused-same (setupOf v) s x (λ y. n (sym z ∙ y)) in
+      record { number = sym z; queues = rw same (h .queues); charges = rw same (h .charges) }
 
 -- an accepted event
 pub accepts : {v : Setup} {s : State} (e : Event) {r : Queues} {cs : List ℕ} → answer (setupOf v) s e ≡ accepted
     → ShowsQueues v (next (setupOf v) s e) r → cs ≡ table maxClients (next (setupOf v) s e .charge)
-    → Answers v s e (record { answer = is.Accepted; queues = r }) cs
+    → Answers v s (known e) (record { answer = is.Accepted; queues = r }) cs
 unfolding step
 accepts {v} {s} e z h f =
     let w = eq-eqb (answer (setupOf v) s e) accepted z in

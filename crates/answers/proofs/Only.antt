@@ -5,9 +5,9 @@ use mathlib.Core.Bool.{cond}
 use mathlib.Core.List.{List}
 use mathlib.Core.Path.{_∙_, _≡_, ap, ap₂, refl, sym}
 use lib.Dec.{eqb}
-use Rattle.rules.specs.Events.{Event}
+use Rattle.rules.specs.Records.{Heard}
 use Rattle.rules.specs.Refusals.{accepted, bestEffort, noClient, notWaiting, runOfNone, runPastCap, serverIdle}
-use Rattle.rules.specs.Refusals.{spentAlready, unknownRecord, waitsAlready}
+use Rattle.rules.specs.Refusals.{spentAlready, unknownRecord, unsound, waitsAlready}
 use Rattle.rules.specs.State.{State}
 use Rattle.parts.specs.declared.Queues.{Queues}
 use Rattle.gate.specs.declared.Setup.{Setup}
@@ -30,7 +30,8 @@ answerFor n =
     (cond (eqb n bestEffort) is.BestEffort
     (cond (eqb n spentAlready) is.SpentAlready
     (cond (eqb n unknownRecord) is.Unknown
-    is.Unsound)))))))))
+    (cond (eqb n unsound) is.Unsound
+    is.NotTidying))))))))))
 
 number-back : (a : Answer) → answerFor (numberOf a) ≡ a
 unfolding answerFor
@@ -45,13 +46,14 @@ number-back is.BestEffort = refl
 number-back is.SpentAlready = refl
 number-back is.Unknown = refl
 number-back is.Unsound = refl
+number-back is.NotTidying = refl
 
 -- each case has a number of its own
 pub one-answer : (a b : Answer) → numberOf a ≡ numberOf b → a ≡ b
 one-answer a b e = sym (number-back a) ∙ ap answerFor e ∙ number-back b
 
-pub one-result : {v : Setup} {s : State} {e : Event} (r t : Outcome) {cs ds : List ℕ} → Answers v s e r cs
-    → Answers v s e t ds → (r ≡ t) × (cs ≡ ds)
+pub one-result : {v : Setup} {s : State} {x : Heard} (r t : Outcome) {cs ds : List ℕ} → Answers v s x r cs
+    → Answers v s x t ds → (r ≡ t) × (cs ≡ ds)
 one-result r t h k = (
   ap₂ (λ (a : Answer) (q : Queues). record { answer = a; queues = q })
       (one-answer (r .answer) (t .answer) (h .number ∙ sym (k .number)))

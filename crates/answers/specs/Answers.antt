@@ -5,10 +5,10 @@ use mathlib.Core.Path.{_≡_}
 use mathlib.Core.List.{List}
 use Rattle.rules.specs.Limits.{maxClients}
 use Rattle.rules.specs.Refusals.{accepted, noClient, waitsAlready, serverIdle, runOfNone, runPastCap}
-use Rattle.rules.specs.Refusals.{notWaiting, bestEffort, spentAlready, unknownRecord, unsound}
+use Rattle.rules.specs.Refusals.{notWaiting, bestEffort, spentAlready, unknownRecord, unsound, notTidying}
 use Rattle.rules.specs.State.{State}
 use Rattle.rules.specs.Events.{Event}
-use Rattle.rules.specs.Step.{answer, step}
+use Rattle.rules.specs.Records.{Heard, known, answerOf, stepOf}
 use Rattle.rules.specs.Sound.{Sound}
 use Rattle.gate.specs.declared.Setup.{Setup}
 use Rattle.parts.specs.declared.Queues.{Queues}
@@ -31,6 +31,7 @@ numberOf is.BestEffort = bestEffort
 numberOf is.SpentAlready = spentAlready
 numberOf is.Unknown = unknownRecord
 numberOf is.Unsound = unsound
+numberOf is.NotTidying = notTidying
 
 -- The parts of a gate of setup v that show the sound state s.
 pub record Holds (v : Setup) (s : State) (q : Queues) (cs : List ℕ) : Type 0 where
@@ -38,13 +39,17 @@ pub record Holds (v : Setup) (s : State) (q : Queues) (cs : List ℕ) : Type 0 w
   pub charges : cs ≡ table maxClients (s .charge)
   pub sound : Sound (setupOf v) s
 
--- r answers the event e as the rules do in the state s, and its queues, with the charges cs, show the state after.
-pub record Answers (v : Setup) (s : State) (e : Event) (r : Outcome) (cs : List ℕ) : Type 0 where
-  pub number : numberOf (r .answer) ≡ answer (setupOf v) s e
-  pub queues : ShowsQueues v (step (setupOf v) s e) (r .queues)
-  pub charges : cs ≡ table maxClients (step (setupOf v) s e .charge)
+-- r answers what is heard as the rules do in the state s, and its queues, with the charges cs, show the state after.
+pub record Answers (v : Setup) (s : State) (x : Heard) (r : Outcome) (cs : List ℕ) : Type 0 where
+  pub number : numberOf (r .answer) ≡ answerOf (setupOf v) s x
+  pub queues : ShowsQueues v (stepOf (setupOf v) s x) (r .queues)
+  pub charges : cs ≡ table maxClients (stepOf (setupOf v) s x .charge)
 
--- The promise of an event's function: so it is in every sound state that the queues q and charges cs show, of a setup
--- of which p holds; cs′ are the charges after.
+-- So it is in every sound state that the queues q and charges cs show, of a setup of which p holds; cs′ are the charges
+-- after.
+abbrev pub Hearing : (Setup → Type 0) → Heard → Queues → List ℕ → Outcome → List ℕ → Type 0
+Hearing p x q cs r cs′ = (v : Setup) (s : State) → p v → Holds v s q cs → Answers v s x r cs′
+
+-- The promise of an event's function.
 abbrev pub Answering : (Setup → Type 0) → Event → Queues → List ℕ → Outcome → List ℕ → Type 0
-Answering p e q cs r cs′ = (v : Setup) (s : State) → p v → Holds v s q cs → Answers v s e r cs′
+Answering p e = Hearing p (known e)

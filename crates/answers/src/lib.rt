@@ -17,6 +17,7 @@ pub enum Answer {
     SpentAlready,
     Unknown,
     Unsound,
+    NotTidying,
 }
 
 // The queues after an event, and the answer. In this order no copy of the queues begins inside a word.
@@ -41,5 +42,6 @@ pub fn number(a: Answer) -> u64
         Answer::SpentAlready => 17,
         Answer::Unknown => 18,
         Answer::Unsound => 19,
+        Answer::NotTidying => 26,
     }
 }

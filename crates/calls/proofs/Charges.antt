@@ -1,4 +1,4 @@
--- The charges that an invoke, a reply and an abort leave.
+-- The charges that an invoke, a reply, a ready and an abort leave.
 -- Assumes nothing.
 use Prim.Native.Nat.{ℕ, _+_}
 use mathlib.Core.Bool.{_&&_, cond, false, true}
@@ -8,7 +8,7 @@ use native.Mathlib.Omega.{arith}
 use lib.Dec.{eqb}
 use lib.ListN.{set}
 use borrow.Author.Tests.{eq-eqb, eqb-false, eqb-true, ne-eqb}
-use Rattle.rules.specs.Events.{Event, abort, invoke, reply}
+use Rattle.rules.specs.Events.{Event, abort, invoke, ready, reply}
 use Rattle.rules.specs.Limits.{maxClients}
 use Rattle.rules.specs.Lists.{upd}
 use Rattle.rules.specs.Setup.{realTime}
@@ -29,6 +29,14 @@ module _ {v : Setup} {s : State} {q : Queues} {cs : List ℕ} (h : Holds v s q c
 
   pub reply-charge : cs ≡ table maxClients (next (setupOf v) s reply .charge)
   reply-charge = same-charge reply (λ c. omega (arith, next-charge (setupOf v) c s reply))
+
+  pub ready-charge : cs ≡ table maxClients (next (setupOf v) s ready .charge)
+  ready-charge = same-charge ready (λ c. omega (arith, next-charge (setupOf v) c s ready))
+
+  pub both-charge : cs ≡ table maxClients (next (setupOf v) (next (setupOf v) s reply) ready .charge)
+  both-charge =
+      reply-charge ∙ table-same maxClients (next (setupOf v) s reply .charge) _
+      (λ c b. omega (arith, next-charge (setupOf v) c (next (setupOf v) s reply) ready))
 
   pub abort-charge : (d : ℕ) → cs ≡ table maxClients (next (setupOf v) s (abort d) .charge)
   abort-charge d = same-charge (abort d) (λ c. omega (arith, next-charge (setupOf v) c s (abort d)))

@@ -1,4 +1,4 @@
--- The answers to invoke, reply and abort, from the tests that the code makes, in their order.
+-- The answers to invoke, reply, ready and abort, from the tests that the code makes, in their order.
 -- Assumes nothing.
 use Prim.Native.Nat.{_<_, _≤_, ℕ}
 use mathlib.Core.Bool.{Bool, false, true, _||_}
@@ -6,11 +6,12 @@ use mathlib.Core.Path.{_≡_}
 use native.Mathlib.Omega.{arith}
 use lib.Dec.{leb}
 use borrow.Author.Tests.{le-leb, lt-leb}
-use Rattle.rules.specs.Events.{abort, invoke, reply}
+use Rattle.rules.specs.Events.{abort, invoke, ready, reply}
 use Rattle.rules.specs.Queues.{waits}
-use Rattle.rules.specs.Refusals.{accepted, bestEffort, noClient, notWaiting, serverIdle, spentAlready, waitsAlready}
+use Rattle.rules.specs.Refusals.{accepted, bestEffort, noClient, notTidying, notWaiting, serverIdle, spentAlready}
+use Rattle.rules.specs.Refusals.{waitsAlready}
 use Rattle.rules.specs.Setup.{realTime}
-use Rattle.rules.specs.State.{State, isIdle, isSpent}
+use Rattle.rules.specs.State.{State, isServing, isSpent, isTidying}
 use Rattle.rules.specs.Step.{answer, present}
 use Rattle.gate.specs.Shown.{setupOf}
 use Rattle.gate.specs.declared.Setup.{Setup}
@@ -63,13 +64,22 @@ module _ (v : Setup) (s : State) where
             unfolding answer
             abort-fine t = rw (known-is, ← kind, real, ← served, ← waiting, there, t)
 
-  -- REPLY
+  -- REPLY AND READY
 
-  module _ {b : Bool} (rests : b ≡ isIdle (s .server)) where
-    pub reply-idle : b ≡ true → answer (setupOf v) s reply ≡ serverIdle
+  module _ {b : Bool} (serves : b ≡ isServing (s .server)) where
+    pub reply-idle : b ≡ false → answer (setupOf v) s reply ≡ serverIdle
     unfolding answer
-    reply-idle t = rw (← rests, t)
+    reply-idle t = rw (← serves, t)
 
-    pub reply-fine : b ≡ false → answer (setupOf v) s reply ≡ accepted
+    pub reply-fine : b ≡ true → answer (setupOf v) s reply ≡ accepted
     unfolding answer
-    reply-fine t = rw (← rests, t)
+    reply-fine t = rw (← serves, t)
+
+  module _ {b : Bool} (tidies : b ≡ isTidying (s .server)) where
+    pub ready-refused : b ≡ false → answer (setupOf v) s ready ≡ notTidying
+    unfolding answer
+    ready-refused t = rw (← tidies, t)
+
+    pub ready-fine : b ≡ true → answer (setupOf v) s ready ≡ accepted
+    unfolding answer
+    ready-fine t = rw (← tidies, t)

@@ -1,5 +1,5 @@
-// Invoke, reply and abort on a gate's parts. Each answers as the rules do, and leaves the parts that show the state
-// after: a refused event leaves them as they were. Reply and abort have nothing to do with the charges.
+// Invoke, reply, ready and abort on a gate's parts. Each answers as the rules do, and leaves the parts that show the
+// state after: a refused event leaves them as they were. Only invoke has to do with the charges.
 
 use answers::Answer;
 use answers::Outcome;
@@ -13,9 +13,10 @@ ghost use lib.Dec.{eqb};
 ghost use lib.ListN.{getD, set};
 ghost use Rattle.rules.specs.Limits.{maxClients};
 ghost use Rattle.rules.specs.Events as rules;
+ghost use Rattle.rules.specs.Records.{replyReady};
 ghost use Rattle.gate.specs.Shown.{serverOf};
 ghost use Rattle.parts.specs.Shows.{Homes, ServerFits};
-ghost use Rattle.answers.specs.Answers.{Answering};
+ghost use Rattle.answers.specs.Answers.{Hearing, Answering};
 
 // INVOKE
 
@@ -72,7 +73,7 @@ pub fn invoke<'a>(
     }
 }
 
-// REPLY AND ABORT
+// REPLY, READY AND ABORT
 
 // Reply: 12.
 pub fn reply<'a>(
@@ -88,13 +89,60 @@ pub fn reply<'a>(
 {
     let y = q.service;
     let server = y.server;
-    if serving::is_idle(server) {
+    if !serving::is_serving(server) {
         return Outcome {
             answer: Answer::ServerIdle,
             queues: q,
         };
     }
     let n = leaving::replied(q, homes, sizes, priorities);
+    Outcome {
+        answer: Answer::Accepted,
+        queues: n,
+    }
+}
+
+// A reply and, if that is accepted, the ready after it, which finds the server tidying: 12.
+pub fn reply_ready<'a>(
+    q: Queues,
+    homes: &'a [u8; 64],
+    sizes: &'a [u8; 8],
+    priorities: &'a [u16; 64],
+) -> Outcome
+    requires { ⌜ ServerFits (serverOf (q .service .server)) × Homes (now homes) ⌝ }
+    ensures { λ r.
+        ⌜ ((cs : List ℕ) → Hearing (λ v. (now (homes .entry) ≡ v .homes)
+        × (now (sizes .entry) ≡ v .sizes) × (now (priorities .entry) ≡ v .priorities)) replyReady q cs r cs) ⌝ }
+{
+    let y = q.service;
+    let server = y.server;
+    if !serving::is_serving(server) {
+        return Outcome {
+            answer: Answer::ServerIdle,
+            queues: q,
+        };
+    }
+    let n = leaving::replied(q, homes, sizes, priorities);
+    let next = moves::picked(n);
+    Outcome {
+        answer: Answer::Accepted,
+        queues: next,
+    }
+}
+
+// Ready: 26.
+pub fn ready(q: Queues) -> Outcome
+    ensures { λ r. ⌜ ((cs : List ℕ) → Answering (λ v. Unit) rules.ready q cs r cs) ⌝ }
+{
+    let y = q.service;
+    let server = y.server;
+    if !serving::is_tidying(server) {
+        return Outcome {
+            answer: Answer::NotTidying,
+            queues: q,
+        };
+    }
+    let n = moves::picked(q);
     Outcome {
         answer: Answer::Accepted,
         queues: n,

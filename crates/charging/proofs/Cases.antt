@@ -17,8 +17,8 @@ waiting-cases = (refl, refl, refl, refl)
 
 -- to the limit, and past it by one; and client 0 is not in the set
 over-cases :
-    (overchargesIn (0 ∷ 16777210 ∷ []) 2 5 1 ≡ false) × (overchargesIn (0 ∷ 16777210 ∷ []) 2 6 1 ≡ true)
-    × (overchargesIn (16777210 ∷ []) 2 6 0 ≡ false)
+    (overchargesIn (0 ∷ 33554426 ∷ []) 2 5 1 ≡ false) × (overchargesIn (0 ∷ 33554426 ∷ []) 2 6 1 ≡ true)
+    × (overchargesIn (33554426 ∷ []) 2 6 0 ≡ false)
 unfolding member
 over-cases = (refl, refl, refl)
 

@@ -10,7 +10,7 @@ use borrow.Author.Tests.{le-ltb, lt-ltb}
 use Rattle.rules.specs.Events.{arrive, joined}
 use Rattle.rules.specs.Lists.{upd}
 use Rattle.rules.specs.Queues.{pick, pickIdle, queue}
-use Rattle.rules.specs.State.{Server, State, best, front, idle, isIdle, spent}
+use Rattle.rules.specs.State.{Server, State, best, front, idle, isIdle, spent, tidying}
 use Rattle.rules.proofs.Tests.{clash}
 use Rattle.sets.specs.Sets.{withOf}
 use Rattle.places.specs.Places.{appendOf, usedOf}
@@ -85,9 +85,11 @@ module _ {v : Setup} {r : Queues} (t : State) {b : Bool} where
   idle-picks (front c) e f h = clash f e
   idle-picks (best c) e f h = clash f e
   idle-picks (spent c) e f h = clash f e
+  idle-picks tidying e f h = clash f e
 
   pub busy-stays : (x : Server) → b ≡ isIdle x → b ≡ false → ShowsQueues v t r → ShowsQueues v (pickIdle x t) r
   busy-stays idle e f h = clash e f
   busy-stays (front c) e f h = h
   busy-stays (best c) e f h = h
   busy-stays (spent c) e f h = h
+  busy-stays tidying e f h = h

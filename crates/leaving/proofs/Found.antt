@@ -1,15 +1,15 @@
 -- What an accepted reply and abort find in a sound state.
 -- Assumes nothing.
 use Prim.Native.Nat.{_<_, ℕ}
-use mathlib.Core.Bool.{false}
+use mathlib.Core.Bool.{false, true}
 use mathlib.Core.List.{List, map}
-use mathlib.Core.Path.{_≡_}
+use mathlib.Core.Path.{_≡_, refl}
 use native.Mathlib.Omega.{arith}
 use lib.ListN.{length, length-map}
 use Rattle.rules.specs.Limits.{maxClusters}
 use Rattle.rules.specs.Lists.{Distinct, has}
 use Rattle.rules.specs.Sound.{Sound}
-use Rattle.rules.specs.State.{Server, State, best, front, idle, spent}
+use Rattle.rules.specs.State.{Server, State, best, front, idle, isServing, spent, tidying}
 use Rattle.rules.proofs.Counts.{distinct-below}
 use Rattle.rules.proofs.Images.{has-map}
 use Rattle.rules.proofs.InOrder.{turns}
@@ -39,7 +39,7 @@ module _ (v : Setup) (s : State) (sound : Sound (setupOf v) s) where
       (turn-free v s sound (setupOf v .cluster c) (fine v s sound .homes c) (λ d a b.
       clash a (rw (heads-same d c (s .lines (setupOf v .cluster c)) (front-there v s sound c d a b) first) e))))
 
-  pub yields : Yields (s .server) (s .global)
+  pub yields : isServing (s .server) ≡ true → Yields (s .server) (s .global)
   yields = go (s .server) (order v s sound .ordered .turn-once)
     where
       -- the turn of the one in service
@@ -48,8 +48,9 @@ module _ (v : Setup) (s : State) (sound : Sound (setupOf v) s) where
       served k low apart =
           turn-free v s sound k low (λ d a b. clash (rw b at (has-map (setupOf v .cluster) d (s .global) a)) apart)
 
-      go : (x : Server) → Distinct (turns (setupOf v) x (s .global)) → Yields x (s .global)
-      go idle t = tt
-      go (front c) t = served (setupOf v .cluster c) (fine v s sound .homes c) (t .0)
-      go (best c) t = tt
-      go (spent c) t = served (setupOf v .cluster c) (fine v s sound .homes c) (t .0)
+      go : (x : Server) → Distinct (turns (setupOf v) x (s .global)) → isServing x ≡ true → Yields x (s .global)
+      go idle t n = clash n refl
+      go (front c) t n = served (setupOf v .cluster c) (fine v s sound .homes c) (t .0)
+      go (best c) t n = tt
+      go (spent c) t n = served (setupOf v .cluster c) (fine v s sound .homes c) (t .0)
+      go tidying t n = clash n refl

@@ -6,13 +6,13 @@ use mathlib.Core.Option.{Option, none, some}
 use mathlib.Core.Path.{_∙_, _≡_, ap, refl, subst, sym}
 use lib.Dec.{ltb}
 use lib.ListN.{getD, length}
-use Rattle.rules.specs.Events.{aborted, ended, freed, gone, left, spend, unqueue}
+use Rattle.rules.specs.Events.{aborted, ended, freed, gone, left, replied, spend, unqueue}
 use Rattle.rules.specs.Limits.{maxClients}
 use Rattle.rules.specs.Lists.{heads, highest}
 use Rattle.rules.specs.Queues.{enter, inRoom, queue, refill, without}
 use Rattle.rules.specs.Rank.{Rank, outranks}
 use Rattle.rules.specs.Setup as rules
-use Rattle.rules.specs.State.{Server, State, best, front, idle, isFront, spent}
+use Rattle.rules.specs.State.{Server, State, best, front, idle, isFront, spent, tidying}
 use Rattle.rules.proofs.Tests.{clash}
 use Rattle.sets.specs.Sets.{withoutOf}
 use Rattle.places.specs.Places.{takeOutOf}
@@ -22,14 +22,14 @@ use Rattle.parts.specs.Shows.{ShowsQueues}
 use Rattle.gate.specs.declared.Client.{Client}
 use Rattle.gate.specs.declared.Line.{Line}
 use Rattle.parts.specs.declared.Queues.{Queues}
-use Rattle.gate.specs.declared.Server.the-variants.{Idle, Spent}
+use Rattle.gate.specs.declared.Server.the-variants.{Spent, Tidying}
 use Rattle.gate.specs.declared.Setup.{Setup}
 use Rattle.parts.proofs.Parts.{line-at, shows-global, shows-line, shows-room, shows-server, taken-out}
 use Rattle.rows.specs.Homes.{Home}
 use Rattle.serving.specs.Service.{asFront, asSpent, servedBy}
 use Rattle.ranks.proofs.Ranks.{same-rank}
 use Rattle.serving.proofs.Service.{as-front, as-spent}
-use Rattle.leaving.specs.Finds.{ends}
+use Rattle.leaving.specs.Finds.{Yields}
 
 -- a refill and the leaving before it keep the global queue
 pub gone-global : (u : rules.Setup) (rank : Rank) (c : ℕ) (s : State) → gone u rank c s .global ≡ s .global
@@ -52,8 +52,8 @@ pub by-rank : {v : Setup} {r : Queues} (c : ℕ) (t s x : State)
 by-rank {v} {r} c t s x q = subst (λ rank. ShowsQueues v (gone (setupOf v) rank c x) r) (same-rank v t s) q
 
 module _ {v : Setup} {s : State} {q : Queues} (h : ShowsQueues v s q) where
-  pub shows-freed : ShowsQueues v (freed s) (putServer Idle (q .service .units) q)
-  shows-freed = rw (h .service .units) (shows-server h refl tt)
+  pub shows-freed : ShowsQueues v (freed s) (putServer Tidying 0 q)
+  shows-freed = shows-server h refl tt
 
   module _ (c : ℕ) (known : c < maxClients) where
     pub shows-spend : (x : Client) → x .0 ≡ c
@@ -122,15 +122,18 @@ module _ {v : Setup} {s : State} {q : Queues} (h : ShowsQueues v s q) {c : ℕ}
   served-spent t = rw who (sym (h .service .server) ∙ as-spent (serverOf (q .service .server)) t)
 
 pub ended-by : {v : Setup} {r : Queues} (s : State) (x : Server) → s .server ≡ x
-    → ShowsQueues v (ended (setupOf v) (outranks (setupOf v) s) x s) r → ShowsQueues v (ends (setupOf v) s) r
+    → ShowsQueues v (ended (setupOf v) (outranks (setupOf v) s) x s) r
+    → ShowsQueues v (replied (setupOf v) (outranks (setupOf v) s) s) r
+unfolding replied
 ended-by {v} {r} s x e z =
     subst (λ y. ShowsQueues v (ended (setupOf v) (outranks (setupOf v) s) y s) r) (sym e) z
 
--- nobody is in service, or a best-effort client
-pub ended-freed : {v : Setup} {r : Queues} (s : State) (x : Server) → s .server ≡ x → asFront x ≡ false
+-- a best-effort client is in service
+pub ended-freed : {v : Setup} {r : Queues} (s : State) (x : Server) → Yields x (s .global) → asFront x ≡ false
     → asSpent x ≡ false → ShowsQueues v (freed s) r
     → ShowsQueues v (ended (setupOf v) (outranks (setupOf v) s) x s) r
-ended-freed {v} {r} s idle e f g h = rw (← e) at h
+ended-freed s idle e f g h = absurd e
 ended-freed s (front c) e f g h = clash refl f
 ended-freed s (best c) e f g h = h
 ended-freed s (spent c) e f g h = clash refl g
+ended-freed s tidying e f g h = absurd e

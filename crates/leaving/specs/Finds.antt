@@ -1,4 +1,4 @@
--- The end of a request, and what a reply and an abort find: room in the global queue.
+-- What an accepted reply and abort find: somebody in service, and room in the global queue.
 -- Assumes nothing.
 use Prim.Native.Nat.{ℕ, _<_}
 use mathlib.Core.Path.{_≡_}
@@ -7,23 +7,17 @@ use mathlib.Core.List.{List}
 use lib.ListN.{length}
 use Rattle.rules.specs.Limits.{maxClusters}
 use Rattle.rules.specs.Lists.{heads, remove}
-use Rattle.rules.specs.Setup as rules
-use Rattle.rules.specs.State.{State, Server, idle, front, best, spent}
-use Rattle.rules.specs.Rank.{outranks}
-use Rattle.rules.specs.Events.{ended}
+use Rattle.rules.specs.State.{State, Server, idle, front, best, spent, tidying}
 use Rattle.gate.specs.declared.Setup.{Setup}
 use Rattle.gate.specs.Shown.{setupOf}
 
--- the served request ends, whoever is in service
-abbrev pub ends : rules.Setup → State → State
-ends u s = ended u (outranks u s) (s .server) s
-
 -- What a reply finds: the turn of the front or spent client in service is not in the global queue.
 abbrev pub Yields : Server → List ℕ → Type 0
-Yields idle g = Unit {0}
+Yields idle g = ⊥
 Yields (front c) g = length g < maxClusters
 Yields (best c) g = Unit {0}
 Yields (spent c) g = length g < maxClusters
+Yields tidying g = ⊥
 
 -- What an abort finds: where c is a front, its turn is free once it left the global queue.
 abbrev pub Turn : Setup → State → ℕ → Type 0

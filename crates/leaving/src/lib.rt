@@ -13,11 +13,11 @@ ghost use Rattle.rules.specs.Rank.{outranks};
 ghost use Rattle.rules.specs.Queues.{queue};
 ghost use Rattle.rules.specs.Events as rules;
 ghost use Rattle.places.specs.Places.{takeOutOf};
-ghost use Rattle.gate.specs.declared.Server.the-variants.{Idle};
+ghost use Rattle.gate.specs.declared.Server.the-variants.{Tidying};
 ghost use Rattle.parts.specs.Parts.{putGlobal, putServer};
 ghost use Rattle.gate.specs.Shown.{serverOf};
 ghost use Rattle.parts.specs.Shows.{Homes, Refills, ServerFits, Leaves};
-ghost use Rattle.leaving.specs.Finds.{ends, Turn, Yields};
+ghost use Rattle.leaving.specs.Finds.{Turn, Yields};
 
 // LEAVING
 
@@ -46,12 +46,11 @@ fn gone<'a>(
 
 // REPLY
 
-// The request in service has ended, and nobody is picked yet.
+// The request in service has ended, and the server tidies: 0 units so far.
 fn freed(q: Queues) -> Queues
-    ensures { λ r. ⌜ r ≡ putServer Idle (q .service .units) q ⌝ }
+    ensures { λ r. ⌜ r ≡ putServer Tidying 0 q ⌝ }
 {
-    let y = q.service;
-    moves::served(q, Server::Idle, y.units)
+    moves::served(q, Server::Tidying, 0)
 }
 
 // The request of a front ends: it leaves its line, then refill, and the next front joins the global queue.
@@ -84,32 +83,7 @@ fn spent_ended(q: Queues, homes: &[u8; 64], c: Client) -> Queues
     moves::queued(free, homes, k)
 }
 
-// The served request ends.
-fn ended<'a>(
-    q: Queues,
-    homes: &'a [u8; 64],
-    sizes: &'a [u8; 8],
-    priorities: &'a [u16; 64],
-) -> Queues
-    requires { ⌜ ServerFits (serverOf (q .service .server)) × Homes (now homes) ⌝ }
-    ensures { λ r.
-        ⌜ Leaves (λ v s. (now (homes .entry) ≡ v .homes)
-        × Refills v (s .room) (now (sizes .entry)) (now (priorities .entry))
-        × Yields (s .server) (s .global)) (λ u s. ends u s) q r ⌝ }
-{
-    let y = q.service;
-    let server = y.server;
-    let c = serving::served(server);
-    if serving::as_front(server) {
-        return front_ended(q, homes, sizes, priorities, c);
-    }
-    if serving::as_spent(server) {
-        return spent_ended(q, homes, c);
-    }
-    freed(q)
-}
-
-// Reply: that, then pick.
+// Reply: the served request ends, and nobody is picked yet.
 pub fn replied<'a>(
     q: Queues,
     homes: &'a [u8; 64],
@@ -122,8 +96,16 @@ pub fn replied<'a>(
         × Refills v (s .room) (now (sizes .entry)) (now (priorities .entry))
         × Yields (s .server) (s .global)) (λ u s. rules.replied u (outranks u s) s) q r ⌝ }
 {
-    let next = ended(q, homes, sizes, priorities);
-    moves::picked(next)
+    let y = q.service;
+    let server = y.server;
+    let c = serving::served(server);
+    if serving::as_front(server) {
+        return front_ended(q, homes, sizes, priorities, c);
+    }
+    if serving::as_spent(server) {
+        return spent_ended(q, homes, c);
+    }
+    freed(q)
 }
 
 // ABORT

@@ -8,7 +8,8 @@ use native.Mathlib.Omega.{arith}
 use lib.ListN.{getD, length}
 use Rattle.rules.specs.Limits.{maxClusters, maxSize, unusedPlace}
 use Rattle.rules.specs.Queues.{join, queue}
-use Rattle.rules.specs.State.{State, blocks, withGlobal}
+use Rattle.rules.specs.State.{State, blocks}
+use Rattle.rules.specs.Changes.{withGlobal}
 use Rattle.places.specs.Places.{appendOf}
 use Rattle.parts.specs.Parts.{putGlobal}
 use Rattle.gate.specs.Shown.{serverOf, setupOf}

@@ -10,8 +10,9 @@ use Rattle.rules.specs.Events.{ran, run}
 use Rattle.rules.specs.Limits.{maxClients}
 use Rattle.rules.specs.Rank.{outranks}
 use Rattle.rules.specs.Refusals.{runOfNone, runPastCap, serverIdle}
-use Rattle.rules.specs.State.{State, isIdle}
+use Rattle.rules.specs.State.{State, capOf, isIdle}
 use Rattle.rules.specs.Step.{answer, next, overcharges, step}
+use Rattle.rules.specs.Records.{known}
 use Rattle.rules.proofs.Tests.{by-test}
 use Rattle.gate.specs.Shown.{setupOf, table}
 use Rattle.parts.specs.Shows.{ShowsQueues}
@@ -33,13 +34,14 @@ module _ (v : Setup) (s : State) where
       unfolding answer
       run-idle t = rw (ne-eqb n 0 positive, ← rests, t)
 
-      module _ (busy : b ≡ false) {p : Bool} (past : p ≡ ltb (v .cap) (s .units + n)) where
+      module _ (busy : b ≡ false) {p : Bool} (past : p ≡ ltb (capOf (setupOf v) (s .server)) (s .units + n)) where
         pub run-past : p ≡ true → answer (setupOf v) s (run n) ≡ runPastCap
         unfolding answer
         run-past t = rw (ne-eqb n 0 positive, ← rests, busy, ← past, t)
 
         -- what is left of a run decides
-        pub run-charges : {r : Outcome} {cs : List ℕ} → p ≡ false → Charges v s n r cs → Answers v s (run n) r cs
+        pub run-charges : {r : Outcome} {cs : List ℕ} → p ≡ false → Charges v s n r cs
+            → Answers v s (known (run n)) r cs
         unfolding answer next step
         run-charges {r} t q =
             by-test (overcharges (setupOf v) s n)

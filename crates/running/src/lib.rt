@@ -9,11 +9,13 @@ ghost use mathlib.Core.Path.{_≡_};
 ghost use Prim.Native.Nat.{_+_, _≤_};
 ghost use lib.Dec.{ltb};
 ghost use Rattle.rules.specs.Limits.{maxClusters, maxCap};
+ghost use Rattle.rules.specs.State.{capOf};
 ghost use Rattle.rules.specs.Events as rules;
+ghost use Rattle.gate.specs.Shown.{setupOf, serverOf};
 ghost use Rattle.answers.specs.Answers.{Answering};
 ghost use Rattle.running.specs.Runs.{Charging, Running};
 
-// Whether n units more would carry the units served past the cap.
+// Whether n units more would carry the units so far past the cap.
 fn passes_cap(cap: u16, units: u32, n: u16) -> bool
     ensures { λ r. ⌜ r ≡ ltb cap (units + n) ⌝ }
 {
@@ -65,7 +67,7 @@ fn charged(
     }
 }
 
-// A run of n: 13, 12, 14, then 19 for the charge.
+// A run of n: 13, 12, 14 by the cap of the one in service or of the tidying, then 19 for the charge.
 fn answered(
     lines: [Line; 8],
     rooms: &[u64; 8],
@@ -80,8 +82,8 @@ fn answered(
     requires { ⌜ clusters ≤ maxClusters ⌝ }
     ensures { λ r.
         ⌜ Running (λ v. (now (sizes .entry) ≡ v .sizes) × (now (priorities .entry) ≡ v .priorities)
-        × (clusters ≡ v .clusters) × (cap ≡ v .cap)) n lines (now (rooms .entry)) y (now (charges .entry)) r
-        (now (charges .exit)) ⌝ }
+        × (clusters ≡ v .clusters) × (cap ≡ capOf (setupOf v) (serverOf (y .server)))) n lines (now (rooms .entry)) y
+        (now (charges .entry)) r (now (charges .exit)) ⌝ }
 {
     if n == 0 {
         return Ran {
@@ -112,16 +114,20 @@ pub fn run<'a>(
     priorities: &'a [u16; 64],
     clusters: usize,
     cap: u16,
+    tidy: u16,
     charges: &mut [u32; 64],
     n: u16,
 ) -> Outcome
     requires { ⌜ clusters ≤ maxClusters ⌝ }
     ensures { λ r.
         ⌜ Answering (λ v. (now (sizes .entry) ≡ v .sizes) × (now (priorities .entry) ≡ v .priorities)
-        × (clusters ≡ v .clusters) × (cap ≡ v .cap)) (rules.run n) q (now (charges .entry)) r (now (charges .exit)) ⌝ }
+        × (clusters ≡ v .clusters) × (cap ≡ v .cap) × (tidy ≡ v .tidy)) (rules.run n) q (now (charges .entry)) r
+        (now (charges .exit)) ⌝ }
 {
     let lines = q.lines;
     let y = q.service;
+    let server = y.server;
+    let most = serving::cap_of(server, cap, tidy);
     let r = answered(
         lines,
         &q.rooms,
@@ -129,7 +135,7 @@ pub fn run<'a>(
         sizes,
         priorities,
         clusters,
-        cap,
+        most,
         charges,
         n,
     );

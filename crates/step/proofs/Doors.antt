@@ -4,13 +4,11 @@ use Prim.Native.Nat.{ℕ, _≤_}
 use mathlib.Core.List.{List}
 use mathlib.Core.Path.{_≡_, refl, sym}
 use mathlib.Core.Bool.{true, false}
-use mathlib.Core.Option.{Option, some, none}
 use lib.ListN.{length}
 use Rattle.rules.specs.Limits.{maxClients, maxClusters}
 use Rattle.rules.specs.Refusals.{unsound}
 use Rattle.rules.specs.State.{State}
-use Rattle.rules.specs.Events.{Event}
-use Rattle.rules.specs.Records.{answerOf, stepOf}
+use Rattle.rules.specs.Records.{Heard, unknown, answerOf, stepOf}
 use Rattle.rules.proofs.Setups.{allowed}
 use Rattle.rules.proofs.Theorems.{sound-stays}
 use Rattle.gate.specs.declared.Gate.{Gate}
@@ -52,35 +50,36 @@ module _ {v : Setup} {q : Queues} {cs : List ℕ} (h : Stands v q cs) where
   server = rw (shows .queues .service .server) (shows .queues .service .fits)
 
   -- a gate by the rules is the step's, and sound
-  steps : (r : Outcome) (cs′ : List ℕ) (o : Option Event) → numberOf (r .answer) ≡ answerOf (setupOf v) now o
-      → gateOf v (r .queues) cs′ ≡ shown v (stepOf (setupOf v) now o) → Steps v q cs o r cs′
+  steps : (r : Outcome) (cs′ : List ℕ) (x : Heard) → numberOf (r .answer) ≡ answerOf (setupOf v) now x
+      → gateOf v (r .queues) cs′ ≡ shown v (stepOf (setupOf v) now x) → Steps v q cs x r cs′
   unfolding stepped
-  steps r cs′ o n e = (
+  steps r cs′ x n e = (
     rw (h .sound, n, e),
     record {
-      sound = rw e (shown-passes v (stepOf (setupOf v) now o)
-          (sound-stays (setupOf v) now o (holds .sound)));
+      sound = rw e (shown-passes v (stepOf (setupOf v) now x)
+          (sound-stays (setupOf v) now x (holds .sound)));
     },
   )
 
-  -- the promise of an event's function, at these parts
-  pub answered : (r : Outcome) (cs′ : List ℕ) (e : Event) → Answers v now e r cs′ → Steps v q cs (some e) r cs′
-  answered r cs′ e a =
-      steps r cs′ (some e) (a .number) (shows-is v (stepOf (setupOf v) now (some e)) (gateOf v (r .queues) cs′)
+  -- the promise of a function of what is heard, at these parts
+  pub answered : (r : Outcome) (cs′ : List ℕ) (x : Heard) → Answers v now x r cs′ → Steps v q cs x r cs′
+  answered r cs′ x a =
+      steps r cs′ x (a .number) (shows-is v (stepOf (setupOf v) now x) (gateOf v (r .queues) cs′)
       (record { fine = fine; setup = refl; queues = a .queues; charges = a .charges }))
 
   -- a record without an event
-  pub unheard : (r : Outcome) → numberOf (r .answer) ≡ answerOf (setupOf v) now none → r .queues ≡ q
-      → Steps v q cs none r cs
-  unheard r n e = steps r cs none n (rw e (sym (shown-back (gateOf v q cs) (passed-laid (gateOf v q cs) (h .sound)))))
+  pub unheard : (r : Outcome) → numberOf (r .answer) ≡ answerOf (setupOf v) now unknown → r .queues ≡ q
+      → Steps v q cs unknown r cs
+  unheard r n e =
+      steps r cs unknown n (rw e (sym (shown-back (gateOf v q cs) (passed-laid (gateOf v q cs) (h .sound)))))
 
 -- a sound gate's step is the rules' own
-pub step-sound : (g : Gate) (o : Option Event) → soundOf g ≡ true → stepped g o ≡ ruled g o
+pub step-sound : (g : Gate) (x : Heard) → soundOf g ≡ true → stepped g x ≡ ruled g x
 unfolding stepped
-step-sound g o h = rw h
+step-sound g x h = rw h
 
 -- 19 and the same gate
-pub refused : (g : Gate) → soundOf g ≡ false → (r : Answered) (o : Option Event)
-    → numberOf (r .answer) ≡ unsound → r .gate ≡ g → toldIn r ≡ stepped g o
+pub refused : (g : Gate) → soundOf g ≡ false → (r : Answered) (x : Heard)
+    → numberOf (r .answer) ≡ unsound → r .gate ≡ g → toldIn r ≡ stepped g x
 unfolding stepped
-refused g h r o n e = rw (h, n, e)
+refused g h r x n e = rw (h, n, e)

@@ -3,11 +3,9 @@
 use Prim.Native.Nat.{ℕ}
 use mathlib.Core.Bool.{true, cond}
 use mathlib.Core.List.{List}
-use mathlib.Core.Option.{Option}
 use mathlib.Core.Path.{_≡_}
 use Rattle.rules.specs.Refusals.{unsound}
-use Rattle.rules.specs.Events.{Event}
-use Rattle.rules.specs.Records.{answerOf, stepOf}
+use Rattle.rules.specs.Records.{Heard, answerOf, stepOf}
 use Rattle.gate.specs.declared.Setup.{Setup}
 use Rattle.parts.specs.declared.Queues.{Queues}
 use Rattle.gate.specs.declared.Gate.{Gate}
@@ -27,16 +25,16 @@ pub record Result : Type 0 where
 abbrev pub toldIn : Answered → Result
 toldIn r = record { number = numberOf (r .answer); gate = r .gate }
 
--- what the rules give in the state that the gate shows; none: a record without an event, which is 18
-abbrev pub ruled : Gate → Option Event → Result
-ruled g o = record {
-  number = answerOf (setupOf (g .setup)) (stateOf g) o;
-  gate = shown (g .setup) (stepOf (setupOf (g .setup)) (stateOf g) o);
+-- what the rules give in the state that the gate shows
+abbrev pub ruled : Gate → Heard → Result
+ruled g x = record {
+  number = answerOf (setupOf (g .setup)) (stateOf g) x;
+  gate = shown (g .setup) (stepOf (setupOf (g .setup)) (stateOf g) x);
 }
 
 -- First an unsound state (19), then 18, then the event's own. A refused event returns the same gate.
-unfoldable pub stepped : Gate → Option Event → Result
-stepped g o = cond (soundOf g) (ruled g o) (record { number = unsound; gate = g })
+unfoldable pub stepped : Gate → Heard → Result
+stepped g x = cond (soundOf g) (ruled g x) (record { number = unsound; gate = g })
 
 -- ON PARTS
 
@@ -48,5 +46,5 @@ abbrev pub toldOf : Setup → Outcome → List ℕ → Result
 toldOf v r cs = record { number = numberOf (r .answer); gate = gateOf v (r .queues) cs }
 
 -- the outcome, with the charges cs′ after, is the step of the gate of these parts, and leaves a sound gate's
-abbrev pub Steps : Setup → Queues → List ℕ → Option Event → Outcome → List ℕ → Type 0
-Steps v q cs o r cs′ = (toldOf v r cs′ ≡ stepped (gateOf v q cs) o) × Stands v (r .queues) cs′
+abbrev pub Steps : Setup → Queues → List ℕ → Heard → Outcome → List ℕ → Type 0
+Steps v q cs x r cs′ = (toldOf v r cs′ ≡ stepped (gateOf v q cs) x) × Stands v (r .queues) cs′

@@ -10,10 +10,9 @@ use gate::Setup;
 use gate::heard_in;
 use parts::Queues;
 ghost use mathlib.Core.Path.{_≡_};
-ghost use mathlib.Core.Option.{some};
 ghost use lib.ListN.{length};
 ghost use Rattle.rules.specs.Limits.{maxClients};
-ghost use Rattle.rules.specs.Records.{eventOf};
+ghost use Rattle.rules.specs.Records.{newest, known, heardOf};
 ghost use Rattle.gate.specs.Heard.{eventIn, heardIn};
 ghost use Rattle.parts.specs.Parts.{setupWith, gateOf};
 ghost use Rattle.step.specs.Stepped.{toldIn, stepped, Stands, Steps};
@@ -32,6 +31,7 @@ pub fn sound_step<'a>(
     clusters: u8,
     clients: u8,
     cap: u16,
+    tidy: u16,
     sizes: &'a [u8; 8],
     kinds: &'a [u8; 64],
     homes: &'a [u8; 64],
@@ -40,18 +40,28 @@ pub fn sound_step<'a>(
     e: Event,
 ) -> Outcome
     requires { ⌜ length (now homes) ≡ maxClients ⌝ }
-    requires { ⌜ Stands (setupWith clusters clients cap (now sizes) (now kinds) (now homes) (now priorities)) q
+    requires { ⌜ Stands (setupWith clusters clients cap tidy (now sizes) (now kinds) (now homes) (now priorities)) q
         (now charges) ⌝ }
     ensures { λ r.
-        ⌜ Steps (setupWith clusters clients cap (now (sizes .entry)) (now (kinds .entry)) (now (homes .entry))
-        (now (priorities .entry))) q (now (charges .entry)) (some (eventIn e)) r (now (charges .exit)) ⌝ }
+        ⌜ Steps (setupWith clusters clients cap tidy (now (sizes .entry)) (now (kinds .entry)) (now (homes .entry))
+        (now (priorities .entry))) q (now (charges .entry)) (known (eventIn e)) r (now (charges .exit)) ⌝ }
 {
     let n = gate::wide(clients);
     match e {
         Event::Invoke(c) => calls::invoke(q, kinds, homes, sizes, n, charges, c),
-        Event::Run(t) => running::run(q, sizes, priorities, gate::wide(clusters), cap, charges, t),
+        Event::Run(t) => running::run(
+            q,
+            sizes,
+            priorities,
+            gate::wide(clusters),
+            cap,
+            tidy,
+            charges,
+            t,
+        ),
         Event::Reply => calls::reply(q, homes, sizes, priorities),
         Event::Abort(c) => calls::abort(q, kinds, homes, sizes, priorities, n, c),
+        Event::Ready => calls::ready(q),
     }
 }
 
@@ -61,6 +71,7 @@ pub fn sound_record<'a>(
     clusters: u8,
     clients: u8,
     cap: u16,
+    tidy: u16,
     sizes: &'a [u8; 8],
     kinds: &'a [u8; 64],
     homes: &'a [u8; 64],
@@ -69,10 +80,10 @@ pub fn sound_record<'a>(
     h: Heard,
 ) -> Outcome
     requires { ⌜ length (now homes) ≡ maxClients ⌝ }
-    requires { ⌜ Stands (setupWith clusters clients cap (now sizes) (now kinds) (now homes) (now priorities)) q
+    requires { ⌜ Stands (setupWith clusters clients cap tidy (now sizes) (now kinds) (now homes) (now priorities)) q
         (now charges) ⌝ }
     ensures { λ r.
-        ⌜ Steps (setupWith clusters clients cap (now (sizes .entry)) (now (kinds .entry)) (now (homes .entry))
+        ⌜ Steps (setupWith clusters clients cap tidy (now (sizes .entry)) (now (kinds .entry)) (now (homes .entry))
         (now (priorities .entry))) q (now (charges .entry)) (heardIn h) r (now (charges .exit)) ⌝ }
 {
     match h {
@@ -81,6 +92,7 @@ pub fn sound_record<'a>(
             clusters,
             clients,
             cap,
+            tidy,
             sizes,
             kinds,
             homes,
@@ -88,6 +100,7 @@ pub fn sound_record<'a>(
             charges,
             e,
         ),
+        Heard::ReplyReady => calls::reply_ready(q, homes, sizes, priorities),
         Heard::Unknown => Outcome {
             answer: Answer::Unknown,
             queues: q,
@@ -108,6 +121,7 @@ fn joined_record(s: Setup, q: Queues, charges: [u32; 64], h: Heard) -> Answered
         s.clusters,
         s.clients,
         s.cap,
+        s.tidy,
         &s.sizes,
         &s.kinds,
         &s.homes,
@@ -141,14 +155,17 @@ fn checked_record(g: Gate, h: Heard) -> Answered
 
 // An event on any gate.
 pub fn step(g: Gate, e: Event) -> Answered
-    ensures { λ r. ⌜ toldIn r ≡ stepped g (some (eventIn e)) ⌝ }
+    ensures { λ r. ⌜ toldIn r ≡ stepped g (known (eventIn e)) ⌝ }
 {
     checked_record(g, Heard::Known(e))
 }
 
-// A raw record, code and argument, on any gate: 19 before 18.
+// The newest version of a log, whose records say one event each.
+const NEWEST: u16 = 2;
+
+// A raw record, code and argument, as the newest logs have it, on any gate: 19 before 18.
 pub fn step_record(g: Gate, code: u8, argument: u16) -> Answered
-    ensures { λ r. ⌜ toldIn r ≡ stepped g (eventOf (record { code = code; argument = argument })) ⌝ }
+    ensures { λ r. ⌜ toldIn r ≡ stepped g (heardOf newest (record { code = code; argument = argument })) ⌝ }
 {
-    checked_record(g, heard_in(code, argument))
+    checked_record(g, heard_in(NEWEST, code, argument))
 }

@@ -7,6 +7,7 @@ use borrow.Author.Tests.{not-false, not-true}
 use Rattle.leaving.proofs.Found.{refills, turn}
 use Rattle.presence.proofs.Here.{waits-is}
 use Rattle.rules.specs.Events.{abort}
+use Rattle.rules.specs.Records.{known}
 use Rattle.rules.specs.State.{isSpent}
 use Rattle.rules.specs.Step.{next}
 use Rattle.answers.specs.declared.Answer.the-variants.{BestEffort, NoClient, NotWaiting, SpentAlready}
@@ -23,7 +24,7 @@ returns : tie.Need-returns
 returns c =
     let d = c .before .before .args .c .0 in
     λ cs v s e h.
-    refuses h (abort d) NoClient (abort-unknown v s d (e .4) (c .before .index .ensures) (c .if1 .taken))
+    refuses h (known (abort d)) NoClient (abort-unknown v s d (e .4) (c .before .index .ensures) (c .if1 .taken))
     (λ z. omega arith)
 
 is-real-time-requires : tie.Need-is-real-time-requires
@@ -33,7 +34,7 @@ returns-2 : tie.Need-returns-2
 returns-2 c =
     let d = c .before .before .before .before .args .c .0 in
     λ cs v s e h.
-    refuses h (abort d) BestEffort
+    refuses h (known (abort d)) BestEffort
     (abort-effort v s d (e .4) (c .before .before .before .index .ensures) (c .before .before .if1 .left)
     (rw (e .0) at (c .before .is-real-time .ensures)) (not-true _ (c .if2 .taken)))
     (λ z. omega arith)
@@ -68,7 +69,7 @@ returns-3 c =
     let a = b .before .before .before .before .before in
     let d = a .before .before .args .c .0 in
     λ cs v s e h.
-    refuses h (abort d) NotWaiting
+    refuses h (known (abort d)) NotWaiting
     (abort-absent v s d (e .4) (a .before .index .ensures) (a .if1 .left)
     (rw (e .0) at (b .before .before .before .before .is-real-time .ensures))
     (not-false _ (b .before .before .before .if2 .left))
@@ -84,7 +85,7 @@ returns-4 c =
     let a = b .before .before .before .before .before in
     let d = a .before .before .before .args .c .0 in
     λ cs v s e h.
-    refuses h (abort d) SpentAlready
+    refuses h (known (abort d)) SpentAlready
     (abort-spent v s d (e .4) (a .before .before .index .ensures) (a .before .if1 .left)
     (rw (e .0) at (a .is-real-time .ensures)) (not-false _ (b .before .before .before .before .if2 .left))
     (rw (b .index2 .ensures) at (c .before .before .before .before .is-spent .ensures) ∙ ap (λ x. isSpent x d)

@@ -8,6 +8,7 @@ use Rattle.gate.specs.Shown.{setupOf}
 use Rattle.presence.proofs.Here.{present-is}
 use Rattle.rules.proofs.Answers.{invoke-accepted}
 use Rattle.rules.specs.Events.{invoke}
+use Rattle.rules.specs.Records.{known}
 use Rattle.rules.specs.Step.{next}
 use Rattle.answers.specs.declared.Answer.the-variants.{NoClient, WaitsAlready}
 use Rattle.answers.proofs.Answering.{accepts, fine, refuses}
@@ -23,7 +24,7 @@ returns : tie.Need-returns
 returns c =
     let d = c .before .before .args .c .0 in
     λ v s e h.
-    refuses h (invoke d) NoClient (invoke-unknown v s d (e .3) (c .before .index .ensures) (c .if1 .taken))
+    refuses h (known (invoke d)) NoClient (invoke-unknown v s d (e .3) (c .before .index .ensures) (c .if1 .taken))
     (λ z. omega arith)
 
 home-requires : tie.Need-home-requires
@@ -50,7 +51,7 @@ returns-2 c =
     let a = b .before .before .before .before .before in
     let d = a .args .c .0 in
     λ v s e h.
-    refuses h (invoke d) WaitsAlready
+    refuses h (known (invoke d)) WaitsAlready
     (invoke-present v s d (e .3) (b .before .before .before .before .index .ensures)
     (b .before .before .before .if1 .left)
     (c .before .present .ensures ∙ present-is (h .queues) (rw (e .1) at (b .before .before .home .ensures)) _ _)

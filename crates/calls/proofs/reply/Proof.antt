@@ -1,11 +1,13 @@
 -- `calls::reply` meets its contract: 12, or the reply.
 -- Assumes nothing.
-use mathlib.Core.Path.{_∙_, ap}
+use mathlib.Core.Path.{_∙_, ap, sym}
 use native.Mathlib.Omega.{arith}
 use borrow.Author.Needs.{needs}
+use borrow.Author.Tests.{not-false, not-true}
 use Rattle.leaving.proofs.Found.{refills, yields}
 use Rattle.rules.specs.Events.{reply}
-use Rattle.rules.specs.State.{isIdle}
+use Rattle.rules.specs.Records.{known}
+use Rattle.rules.specs.State.{isServing}
 use Rattle.rules.specs.Step.{next}
 use Rattle.answers.specs.declared.Answer.the-variants.{ServerIdle}
 use Rattle.answers.proofs.Answering.{accepts, fine, refuses}
@@ -14,14 +16,15 @@ use Rattle.calls.proofs.Refusing.{reply-fine, reply-idle}
 use Rattle.calls.proofs.reply.Statement.{statement}
 use Rattle.calls.proofs.reply.Tie as tie
 
-is-idle-requires : tie.Need-is-idle-requires
-is-idle-requires c κs = search needs
+is-serving-requires : tie.Need-is-serving-requires
+is-serving-requires c κs = search needs
 
 returns : tie.Need-returns
 returns c =
     λ cs v s e h.
-    refuses h reply ServerIdle (reply-idle v s (c .before .is-idle .ensures ∙ ap isIdle (h .queues .service .server))
-    (c .if1 .taken)) (λ z. omega arith)
+    refuses h (known reply) ServerIdle
+    (reply-idle v s (c .before .is-serving .ensures ∙ ap isServing (h .queues .service .server))
+    (not-true (c .before .is-serving .result) (c .if1 .taken))) (λ z. omega arith)
 
 replied-requires : tie.Need-replied-requires
 replied-requires c κs = search needs
@@ -30,10 +33,12 @@ returns-2 : tie.Need-returns-2
 unfolding next
 returns-2 c =
     λ cs v s e h.
-    accepts reply (reply-fine v s (c .before .before .is-idle .ensures ∙ ap isIdle (h .queues .service .server))
-    (c .before .if1 .left))
-    (c .replied .ensures v s (fine h) (e .0, refills v s (h .sound) (e .1) (e .2), yields v s (h .sound)) (h .queues))
+    let told = c .before .before .is-serving .ensures ∙ ap isServing (h .queues .service .server) in
+    let serves = not-false (c .before .before .is-serving .result) (c .before .if1 .left) in
+    accepts reply (reply-fine v s told serves)
+    (c .replied .ensures v s (fine h)
+    (e .0, refills v s (h .sound) (e .1) (e .2), yields v s (h .sound) (sym told ∙ serves)) (h .queues))
     (reply-charge h)
 
 pub reply-spec : {M : Type 1} → statement M
-reply-spec = tie.close (tie.spec is-idle-requires returns replied-requires returns-2)
+reply-spec = tie.close (tie.spec is-serving-requires returns replied-requires returns-2)

@@ -7,7 +7,9 @@ use lib.Dec.{ltb}
 use borrow.Author.Needs.{needs}
 use borrow.Author.Tests.{ltb-false}
 use Rattle.rules.specs.Events.{run}
-use Rattle.rules.specs.State.{isIdle}
+use Rattle.rules.specs.Records.{known}
+use Rattle.rules.specs.State.{capOf, isIdle}
+use Rattle.gate.specs.Shown.{setupOf}
 use Rattle.answers.specs.declared.Answer.the-variants.{RunOfNone, RunPastCap, ServerIdle}
 use Rattle.answers.proofs.Answering.{refuses}
 use Rattle.running.proofs.Running.{run-charges, run-idle, run-none, run-past}
@@ -18,7 +20,7 @@ returns : tie.Need-returns
 returns c =
     let n = c .before .args .n in
     λ q lines rooms service v s e h.
-    rw (← service) (refuses h (run n) RunOfNone (run-none v s n (c .if1 .taken)) (λ z. omega arith))
+    rw (← service) (refuses h (known (run n)) RunOfNone (run-none v s n (c .if1 .taken)) (λ z. omega arith))
 
 is-idle-requires : tie.Need-is-idle-requires
 is-idle-requires c κs = search needs
@@ -29,7 +31,7 @@ returns-2 c =
     λ q lines rooms service v s e h.
     let idle = c .before .is-idle .ensures ∙ ap isIdle (rw service at (h .queues .service .server)) in
     rw (← service)
-    (refuses h (run n) ServerIdle (run-idle v s idle n (c .before .before .if1 .left) (c .if2 .taken))
+    (refuses h (known (run n)) ServerIdle (run-idle v s idle n (c .before .before .if1 .left) (c .if2 .taken))
     (λ z. omega arith))
 
 passes-cap-requires : tie.Need-passes-cap-requires
@@ -41,9 +43,10 @@ returns-3 c =
     λ q lines rooms service v s e h.
     let idle = c .before .before .before .is-idle .ensures ∙ ap isIdle (rw service at (h .queues .service .server)) in
     let past = c .before .passes-cap .ensures
-    ∙ ap₂ (λ l m. ltb l (m + n)) (e .3) (rw service at (h .queues .service .units)) in
+    ∙ ap₂ (λ l m. ltb l (m + n)) (e .3 ∙ ap (capOf (setupOf v)) (rw service at (h .queues .service .server)))
+    (rw service at (h .queues .service .units)) in
     rw (← service)
-    (refuses h (run n) RunPastCap (run-past v s idle n (c .before .before .before .before .if1 .left)
+    (refuses h (known (run n)) RunPastCap (run-past v s idle n (c .before .before .before .before .if1 .left)
     (c .before .before .if2 .left) past (c .if3 .taken)) (λ z. omega arith))
 
 charged-requires : tie.Need-charged-requires
@@ -60,7 +63,8 @@ returns-4 c =
     λ q lines rooms service v s e h.
     let idle = b .is-idle .ensures ∙ ap isIdle (rw service at (h .queues .service .server)) in
     let past = c .before .before .before .passes-cap .ensures
-    ∙ ap₂ (λ l m. ltb l (m + n)) (e .3) (rw service at (h .queues .service .units)) in
+    ∙ ap₂ (λ l m. ltb l (m + n)) (e .3 ∙ ap (capOf (setupOf v)) (rw service at (h .queues .service .server)))
+    (rw service at (h .queues .service .units)) in
     run-charges v s idle n (b .before .if1 .left) (c .before .before .before .before .if2 .left) past
     (c .before .before .if3 .left)
     (c .charged .ensures q lines rooms service v s (e .0, e .1, e .2) h)

@@ -5,11 +5,17 @@ use borrow.Author.Needs.{needs}
 use Rattle.running.proofs.run.Statement.{statement}
 use Rattle.running.proofs.run.Tie as tie
 
+cap-of-requires : tie.Need-cap-of-requires
+cap-of-requires c κs = search needs
+
 answered-requires : tie.Need-answered-requires
 answered-requires c κs = search needs
 
 returns : tie.Need-returns
-returns c = c .before .answered .ensures _ refl refl refl
+returns c =
+    λ v s e h.
+    c .before .answered .ensures _ refl refl refl v s
+    (e .0, e .1, e .2, rw (← e .3, ← e .4) (c .before .before .before .before .before .cap-of .ensures)) h
 
 pub run-spec : {M : Type 1} → statement M
-run-spec = tie.close (tie.spec answered-requires returns)
+run-spec = tie.close (tie.spec cap-of-requires answered-requires returns)

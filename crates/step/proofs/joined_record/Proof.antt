@@ -9,7 +9,8 @@ use Rattle.step.proofs.joined_record.Tie as tie
 sound-record-requires : tie.Need-sound-record-requires
 sound-record-requires c κs =
     let a = c .before .before .before .before .before .before in
-    let n : length (a .args .t1 .homes) ≡ 64 = search needs in
+    let far = a .good .0 .1 .1 .1 .1 .1 .1 .1 .1 .0 in
+    let n : length (a .args .t1 .homes) ≡ 64 = search (needs, far) in
     (n, a .pre)
 
 gate-of-requires : tie.Need-gate-of-requires

@@ -44,6 +44,12 @@ abort-requires c κs =
     let a = c .before .before .before .before .pre in
     (homes (a .1) (a .0), rw (c .before .before .before .wide .ensures) (fine (a .1) .clients))
 
+enum-told-2 : tie.Need-enum-told-2
+enum-told-2 c = search needs
+
+ready-requires : tie.Need-ready-requires
+ready-requires c κs = search needs
+
 returns : tie.Need-returns
 returns c =
     let a = c .before .before .before .before .before .before .pre .1 in
@@ -56,7 +62,7 @@ returns-2 c =
     let a = c .before .before .before .before .before .before .before .pre .1 in
     rw (c .before .before .before .before .e2 .given .1)
     (answered a (c .run .result) _ _
-    (c .run .ensures _ _ (refl, refl, c .before .before .wide2 .ensures, refl) (holds a)))
+    (c .run .ensures _ _ (refl, refl, c .before .before .wide2 .ensures, refl, refl) (holds a)))
 
 returns-3 : tie.Need-returns-3
 returns-3 c =
@@ -70,6 +76,12 @@ returns-4 c =
     rw (c .before .before .e3 .given .1)
     (answered a (c .abort .result) _ _
     (c .abort .ensures _ _ _ (refl, refl, refl, refl, c .before .before .before .before .wide .ensures) (holds a)))
+
+returns-5 : tie.Need-returns-5
+returns-5 c =
+    let a = c .before .before .before .before .pre .1 in
+    rw (c .before .enum-told2 .given .1)
+    (answered a (c .ready .result) _ _ (c .ready .ensures _ _ _ tt (holds a)))
 
 pub sound-step-spec : {M : Type 1} → statement M
 sound-step-spec =
@@ -85,7 +97,10 @@ sound-step-spec =
     reply-requires
     enum-known-e-3
     abort-requires
+    enum-told-2
+    ready-requires
     returns
     returns-2
     returns-3
-    returns-4)
+    returns-4
+    returns-5)
