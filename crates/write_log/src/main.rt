@@ -1,5 +1,5 @@
 // Tries the writer of logs. Standard input gives a room in bytes and a log. The writer is handed a buffer of that room,
-// the log's setup and each of its records; what it answers, and the whole buffer, go to standard output.
+// the log's version, its setup and each of its records; what it answers, and the whole buffer, go to standard output.
 mod input;
 mod lines;
 
@@ -10,9 +10,6 @@ use input::MAX_ROOM;
 use input::read_input;
 use input::room_in;
 use layout::RECORD;
-use layout::RECORD_ARGUMENT;
-use layout::byte_at;
-use layout::word_at;
 use lines::TEXT;
 use lines::put_buffer;
 use lines::put_entry;
@@ -80,25 +77,34 @@ fn put_tried(log: &[u8], room: usize, out: &mut [u8; TEXT]) -> usize
 {
     let o = log::open(log);
     let opening = o.opening;
+    let version = o.version;
     let setup = o.setup;
     match opening {
         Opening::Refused(r) => put_refusal(out, 0, r),
-        Opening::Records(start) => put_in_room(log, start, setup, room, out),
+        Opening::Records(start) => put_in_room(log, version, start, setup, room, out),
     }
 }
 
 // The same of a log that is not refused.
-fn put_in_room(log: &[u8], start: usize, setup: Setup, room: usize, out: &mut [u8; TEXT]) -> usize
+fn put_in_room(
+    log: &[u8],
+    version: u16,
+    start: usize,
+    setup: Setup,
+    room: usize,
+    out: &mut [u8; TEXT],
+) -> usize
     requires { ⌜ (length (now log) ≤ inputBytes) × (room ≤ maxRoom) ⌝ }
     ensures { λ r. ⌜ r ≤ length (now (out .exit)) ⌝ }
 {
     let mut buffer = [UNWRITTEN; MAX_ROOM];
-    put_written(log, start, setup, &mut buffer[..room], out)
+    put_written(log, version, start, setup, &mut buffer[..room], out)
 }
 
 // The same with a buffer for the room. Only behind the tables there are records.
 fn put_written(
     log: &[u8],
+    version: u16,
     start: usize,
     setup: Setup,
     buffer: &mut [u8],
@@ -107,7 +113,7 @@ fn put_written(
     requires { ⌜ (length (now log) ≤ inputBytes) × (length (now buffer) ≤ maxRoom) ⌝ }
     ensures { λ r. ⌜ r ≤ length (now (out .exit)) ⌝ }
 {
-    let w = writing::write_setup(buffer, setup);
+    let w = writing::write_setup(buffer, version, setup);
     let answer = w.answer;
     let n = writing::number(answer);
     let end = put_named(out, 0, b"tables ", n);
@@ -120,33 +126,44 @@ fn put_written(
         used: w.used,
         end: end,
     };
-    let last = write_records(log, first, buffer, out);
+    let last = write_records(log, version, first, buffer, out);
     put_last(log, last, buffer, out)
 }
 
 // Writes the whole records of a log, also after a refusal, and puts a line for each.
-fn write_records(log: &[u8], first: Standing, buffer: &mut [u8], out: &mut [u8; TEXT]) -> Standing
+fn write_records(
+    log: &[u8],
+    version: u16,
+    first: Standing,
+    buffer: &mut [u8],
+    out: &mut [u8; TEXT],
+) -> Standing
     requires { ⌜ (length (now log) ≤ inputBytes) × (first .index ≡ 0) × (first .end ≤ lineBytes) ⌝ }
     ensures { λ r. ⌜ r .end ≤ lineBytes * (1 + mostRecords) ⌝ }
 {
     let mut s = first;
     while s.next < log.len() {
-        let Next::Recorded(_) = record_at(log, s.next) else {
+        let Next::Recorded(code, argument) = record_at(log, s.next) else {
             break;
         };
-        s = write_next(log, s, buffer, out);
+        s = write_next(version, code, argument, s, buffer, out);
     }
     s
 }
 
 // Writes the next record, by its code and its argument since it may be no event, and puts its line.
-fn write_next(log: &[u8], s: Standing, buffer: &mut [u8], out: &mut [u8; TEXT]) -> Standing
+fn write_next(
+    version: u16,
+    code: u8,
+    argument: u16,
+    s: Standing,
+    buffer: &mut [u8],
+    out: &mut [u8; TEXT],
+) -> Standing
     requires { ⌜ (s .index ≤ s .next) × (s .next ≤ inputBytes) × (s .end + lineBytes ≤ textBytes) ⌝ }
     ensures { λ r. ⌜ (r .index ≡ s .index + 1) × (r .next ≡ s .next + recordSize) × (r .end ≤ s .end + lineBytes) ⌝ }
 {
-    let code = byte_at(log, s.next);
-    let argument = word_at(log, s.next + RECORD_ARGUMENT);
-    let w = writing::write_record(buffer, s.used, code, argument);
+    let w = writing::write_record(buffer, s.used, version, code, argument);
     let answer = w.answer;
     Standing {
         index: s.index + 1,

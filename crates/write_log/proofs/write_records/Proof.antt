@@ -10,12 +10,12 @@ use Rattle.write_log.proofs.write_records.Statement.{statement}
 use Rattle.write_log.proofs.write_records.Tie as tie
 
 abbrev Inv-loop : tie.InvT-loop
-Inv-loop log buffer₀ out₀ s₀ buffer out s =
+Inv-loop log version buffer₀ out₀ s₀ buffer out s =
     (length buffer ≡ length buffer₀) × (recordSize * s .index ≤ s .next)
     × (recordSize * s .index ≤ length log + recordSize) × (s .end ≤ lineBytes * (1 + s .index))
 
 abbrev μ-loop : tie.MeasureT-loop
-μ-loop log buffer₀ out₀ s₀ buffer out s = length log - s .next
+μ-loop log version buffer₀ out₀ s₀ buffer out s = length log - s .next
 
 loop-holds : tie.Need-loop-holds Inv-loop μ-loop
 loop-holds c = search needs
@@ -23,11 +23,11 @@ loop-holds c = search needs
 record-at-requires : tie.Need-record-at-requires Inv-loop μ-loop
 record-at-requires c κs = search needs
 
+enum-known-code : tie.Need-enum-known-code Inv-loop μ-loop
+enum-known-code c = search needs
+
 enum-told : tie.Need-enum-told Inv-loop μ-loop
 enum-told c = search needs
-
-enum-told-2 : tie.Need-enum-told-2 Inv-loop μ-loop
-enum-told-2 c = search needs
 
 write-next-requires : tie.Need-write-next-requires Inv-loop μ-loop
 write-next-requires c κs = search needs
@@ -58,8 +58,8 @@ write-records-spec =
     μ-loop
     loop-holds
     record-at-requires
+    enum-known-code
     enum-told
-    enum-told-2
     write-next-requires
     loop-less
     loop-again
