@@ -11,7 +11,7 @@ use Rattle.rules.specs.Refusals.{badLines}
 use Rattle.rules.specs.Quote.{orderOf, refusedQuote, quote}
 use Rattle.quote.proofs.Answers.{many-lines}
 use Rattle.numerals.specs.Numbers.{outOfRange}
-use Rattle.order.specs.Orders.{fields, values, everyOther, orderFrom, maxBytes, asked}
+use Rattle.order.specs.Orders.{fields, values, everyThird, orderFrom, maxBytes, asked}
 use Rattle.order.specs.Steps.{maxFields}
 use Rattle.order.proofs.Fields.{length-values}
 use Rattle.order.proofs.Columns.{length-column}
@@ -31,8 +31,8 @@ module _ (s : List ℕ) where
         not-long ∙ many-lines (orderFrom (values s)) (omega (arith, length-column (values s) 4, length-values s))
 
 -- the fields and the columns that were read are those of the order
-pub same-order : (vs : List ℤ) {e p m K : ℤ} {calls caps : List ℤ}
+pub same-order : (vs : List ℤ) {e p m K : ℤ} {calls caps tidies : List ℤ}
     → e ≡ getD vs 0 outOfRange → p ≡ getD vs 1 outOfRange → m ≡ getD vs 2 outOfRange → K ≡ getD vs 3 outOfRange
-    → calls ≡ everyOther (drop 4 vs) → caps ≡ everyOther (drop 5 vs)
-    → quote (orderOf e p m K calls caps) ≡ quote (orderFrom vs)
-same-order vs e p m K calls caps = rw (e, p, m, K, calls, caps)
+    → calls ≡ everyThird (drop 4 vs) → caps ≡ everyThird (drop 5 vs) → tidies ≡ everyThird (drop 6 vs)
+    → quote (orderOf e p m K calls caps tidies) ≡ quote (orderFrom vs)
+same-order vs e p m K calls caps tidies = rw (e, p, m, K, calls, caps, tidies)

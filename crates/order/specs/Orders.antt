@@ -1,4 +1,4 @@
--- A line of text as an order, `e,p,m,K,N1,L1,N2,L2,..`, and the quote that it asks for.
+-- A line of text as an order, `e,p,m,K,N1,L1,W1,N2,L2,W2,..`, and the quote that it asks for.
 -- Assumes nothing.
 use Prim.Native.Nat.{ℕ}
 use mathlib.Core.Bool.{cond}
@@ -29,14 +29,15 @@ values s = map fieldOf (fields s)
 
 -- ORDERS
 
--- the first, the third, and so on
-abbrev pub everyOther : List ℤ → List ℤ
-everyOther [] = []
-everyOther (x ∷ []) = x ∷ []
-everyOther (x ∷ y ∷ l) = x ∷ everyOther l
+-- the first, the fourth, and so on
+abbrev pub everyThird : List ℤ → List ℤ
+everyThird [] = []
+everyThird (x ∷ []) = x ∷ []
+everyThird (x ∷ y ∷ []) = x ∷ []
+everyThird (x ∷ y ∷ z ∷ l) = x ∷ everyThird l
 
--- A missing one of the first four is out of range at its place. Then N and L by turns: with an odd number of line
--- fields the columns differ in length.
+-- A missing one of the first four is out of range at its place. Then N, L and W by turns: with a number of line fields
+-- that 3 does not divide the columns differ in length.
 abbrev pub orderFrom : List ℤ → Order
 orderFrom fs =
     record {
@@ -44,8 +45,9 @@ orderFrom fs =
       period = getD fs 1 outOfRange;
       size = getD fs 2 outOfRange;
       clusters = getD fs 3 outOfRange;
-      calls = everyOther (drop 4 fs);
-      caps = everyOther (drop 5 fs);
+      calls = everyThird (drop 4 fs);
+      caps = everyThird (drop 5 fs);
+      tidies = everyThird (drop 6 fs);
     }
 
 -- An order of more than 1,023 bytes is refused as one of too many lines is.

@@ -19,14 +19,14 @@ fieldLength (b ∷ s) = cond (eqb b comma) 0 (suc (fieldLength s))
 abbrev pub Placed : List ℤ → List ℤ → List ℤ → Type 0
 Placed vs before after = (j : ℕ) → j < length before → getD after j (pos 0) ≡ getD vs j (getD before j (pos 0))
 
--- the first four, and N and L of each line
+-- the first four, and N, L and W of each line
 abbrev pub maxFields : ℕ
-maxFields = 4 + 2 * maxLines
+maxFields = 4 + 3 * maxLines
 
--- a column holds every other place from one on
+-- a column holds every third place from one on
 abbrev pub Column : List ℤ → ℕ → List ℤ → Type 0
-Column v from column = (i : ℕ) → i < maxLines → getD column i (pos 0) ≡ getD v (from + 2 * i) (pos 0)
+Column v from column = (i : ℕ) → i < maxLines → getD column i (pos 0) ≡ getD v (from + 3 * i) (pos 0)
 
 -- how many fields of n stand in the column that starts at a field
 abbrev pub inColumn : ℕ → ℕ → ℕ
-inColumn n from = (n - from + 1) / 2
+inColumn n from = (n - from + 2) / 3

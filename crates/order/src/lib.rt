@@ -16,10 +16,10 @@ const COMMA: u8 = 44;
 // The most bytes of an order.
 pub const MAX_BYTES: usize = 1023;
 
-// The first four, and N and L of each line.
-const MAX_FIELDS: usize = 4 + 2 * MAX_LINES;
+// The first four, and N, L and W of each line.
+const MAX_FIELDS: usize = 4 + 3 * MAX_LINES;
 
-// The quote that a line of text asks for: `e,p,m,K,N1,L1,N2,L2,..`, without its line end.
+// The quote that a line of text asks for: `e,p,m,K,N1,L1,W1,N2,L2,W2,..`, without its line end.
 pub fn ask(s: &[u8]) -> Answer
     ensures { λ r. ⌜ told r ≡ asked (now (s .entry)) ⌝ }
 {
@@ -33,9 +33,19 @@ pub fn ask(s: &[u8]) -> Answer
     }
     let calls = column(&v, 4);
     let caps = column(&v, 5);
+    let tidies = column(&v, 6);
     let a = in_column(n, 4);
     let b = in_column(n, 5);
-    quote::budget(v[0], v[1], v[2], v[3], &calls[..a], &caps[..b])
+    let c = in_column(n, 6);
+    quote::budget(
+        v[0],
+        v[1],
+        v[2],
+        v[3],
+        &calls[..a],
+        &caps[..b],
+        &tidies[..c],
+    )
 }
 
 // Reads the fields one by one, each to its place while there are places, and tells how many there are.
@@ -67,18 +77,18 @@ fn in_column(n: usize, from: usize) -> usize
     requires { ⌜ n ≤ maxFields ⌝ }
     ensures { λ r. ⌜ r ≡ inColumn n from ⌝ }
 {
-    if n < from { 0 } else { (n - from + 1) / 2 }
+    if n < from { 0 } else { (n - from + 2) / 3 }
 }
 
-// The fields of a column: every other place from one on.
+// The fields of a column: every third place from one on.
 fn column(v: &[i64; MAX_FIELDS], from: usize) -> [i64; MAX_LINES]
-    requires { ⌜ from ≤ 5 ⌝ }
+    requires { ⌜ from ≤ 6 ⌝ }
     ensures { λ r. ⌜ (length r ≡ maxLines) × Column (now (v .entry)) from r ⌝ }
 {
     let mut out = [0i64; MAX_LINES];
     let mut i = 0;
     while i < MAX_LINES {
-        let x = v[from + 2 * i];
+        let x = v[from + 3 * i];
         out[i] = x;
         i += 1;
     }

@@ -1,15 +1,14 @@
 // The budget quote: what an order of calls may burn of a client's budget, or why the order is refused.
 ghost use mathlib.Core.Path.{_≡_};
-ghost use mathlib.Core.Bool.{true};
 ghost use Prim.Native.Nat.{_+_, _*_, _≤_};
 ghost use lib.Dec.{T};
 ghost use lib.IntN.{natAbs};
 ghost use lib.ListN.{length};
 ghost use lib.Signed.{nonNeg};
 ghost use Rattle.rules.specs.Demands.{worst};
-ghost use Rattle.rules.specs.Limits.{maxLines, maxSize, maxClusters, maxCalls, maxCap};
-ghost use Rattle.rules.specs.Quote.{orderOf, quote, inRange, linesFit, firstFalse, burnt};
-ghost use Rattle.quote.specs.Steps.{fieldsOut, AllFit, mostOfLine};
+ghost use Rattle.rules.specs.Limits.{maxLines, maxSize, maxClusters};
+ghost use Rattle.rules.specs.Quote.{orderOf, quote, inRange, linesFit, firstFalse, burnt, Even};
+ghost use Rattle.quote.specs.Steps.{fieldsOut, LineIn, AllFit, mostOfLine};
 ghost use Rattle.quote.specs.Told.{told, numbersOf};
 
 pub enum Answer {
@@ -48,6 +47,8 @@ const MAX_CALLS: u64 = 1000;
 
 const MAX_CAP: u64 = 65535;
 
+const MAX_TIDY: u64 = 65535;
+
 // The numbers of an answer.
 pub fn tell(a: Answer) -> Numbers
     ensures { λ r. ⌜ numbersOf r ≡ told a ⌝ }
@@ -76,9 +77,10 @@ pub fn tell(a: Answer) -> Numbers
     }
 }
 
-// The budget of an order: own work e, period p, m, K and the columns N and L of its server lines.
-pub fn budget(e: i64, p: i64, m: i64, k: i64, calls: &[i64], caps: &[i64]) -> Answer
-    ensures { λ r. ⌜ told r ≡ quote (orderOf e p m k (now (calls .entry)) (now (caps .entry))) ⌝ }
+// The budget of an order: own work e, period p, m, K and the columns N, L and W of its server lines.
+pub fn budget(e: i64, p: i64, m: i64, k: i64, calls: &[i64], caps: &[i64], tidies: &[i64]) -> Answer
+    ensures { λ r. ⌜ told r
+        ≡ quote (orderOf e p m k (now (calls .entry)) (now (caps .entry)) (now (tidies .entry))) ⌝ }
 {
     if MAX_LINES < calls.len() {
         return Answer::BadLines;
@@ -86,11 +88,14 @@ pub fn budget(e: i64, p: i64, m: i64, k: i64, calls: &[i64], caps: &[i64]) -> An
     if calls.len() != caps.len() {
         return Answer::BadLines;
     }
-    let place = first_out(e, p, m, k, calls, caps);
-    if place < 4 + 2 * calls.len() {
+    if calls.len() != tidies.len() {
+        return Answer::BadLines;
+    }
+    let place = first_out(e, p, m, k, calls, caps, tidies);
+    if place < 4 + 3 * calls.len() {
         return Answer::FieldOut(place);
     }
-    let sum = whole(e) + lines_burn(whole(m), whole(k), calls, caps);
+    let sum = whole(e) + lines_burn(whole(m), whole(k), calls, caps, tidies);
     if sum <= whole(p) {
         Answer::Accepted(sum)
     } else {
@@ -99,9 +104,9 @@ pub fn budget(e: i64, p: i64, m: i64, k: i64, calls: &[i64], caps: &[i64]) -> An
 }
 
 // The place of the first field that is out of its range, and past the last place if there is none.
-fn first_out(e: i64, p: i64, m: i64, k: i64, calls: &[i64], caps: &[i64]) -> usize
-    requires { ⌜ (length (now calls) ≡ length (now caps)) × (length (now calls) ≤ maxLines) ⌝ }
-    ensures { λ r. ⌜ r ≡ fieldsOut (orderOf e p m k (now (calls .entry)) (now (caps .entry))) ⌝ }
+fn first_out(e: i64, p: i64, m: i64, k: i64, calls: &[i64], caps: &[i64], tidies: &[i64]) -> usize
+    requires { ⌜ Even (now calls) (now caps) (now tidies) × (length (now calls) ≤ maxLines) ⌝ }
+    ensures { λ r. ⌜ r ≡ fieldsOut (orderOf e p m k (now (calls .entry)) (now (caps .entry)) (now (tidies .entry))) ⌝ }
 {
     if !in_range(e, 1, MAX_WORK) {
         return 0;
@@ -115,51 +120,56 @@ fn first_out(e: i64, p: i64, m: i64, k: i64, calls: &[i64], caps: &[i64]) -> usi
     if !in_range(k, 1, MAX_CLUSTERS) {
         return 3;
     }
-    lines_out(calls, caps)
+    lines_out(calls, caps, tidies)
 }
 
-// The same from the lines on: 4 + 2i for N of line i, 5 + 2i for its L.
-fn lines_out(calls: &[i64], caps: &[i64]) -> usize
-    requires { ⌜ (length (now calls) ≡ length (now caps)) × (length (now calls) ≤ maxLines) ⌝ }
-    ensures { λ r. ⌜ r ≡ 4 + firstFalse (linesFit (now (calls .entry)) (now (caps .entry))) ⌝ }
+// The same from the lines on: 4 + 3i for N of line i, 5 + 3i for its L, 6 + 3i for its W.
+fn lines_out(calls: &[i64], caps: &[i64], tidies: &[i64]) -> usize
+    requires { ⌜ Even (now calls) (now caps) (now tidies) × (length (now calls) ≤ maxLines) ⌝ }
+    ensures { λ r. ⌜ r ≡ 4 + firstFalse (linesFit (now (calls .entry)) (now (caps .entry)) (now (tidies .entry))) ⌝ }
 {
     let mut i = 0;
     while i < calls.len() {
         if !in_range(calls[i], 0, MAX_CALLS) {
-            return 4 + 2 * i;
+            return 4 + 3 * i;
         }
         if !in_range(caps[i], 1, MAX_CAP) {
-            return 5 + 2 * i;
+            return 5 + 3 * i;
+        }
+        if !in_range(tidies[i], 0, MAX_TIDY) {
+            return 6 + 3 * i;
         }
         i += 1;
     }
-    4 + 2 * i
+    4 + 3 * i
 }
 
-// The sum over lines of N(2 + 2mK)L.
-fn lines_burn(m: u64, k: u64, calls: &[i64], caps: &[i64]) -> u64
+// The sum over lines of N(2 + 2mK)(L + W).
+fn lines_burn(m: u64, k: u64, calls: &[i64], caps: &[i64], tidies: &[i64]) -> u64
     requires { ⌜ (m ≤ maxSize) × (k ≤ maxClusters) ⌝ }
-    requires { ⌜ (length (now calls) ≤ maxLines) × AllFit (now calls) (now caps) ⌝ }
-    ensures { λ r. ⌜ r ≡ burnt m k (now (calls .entry)) (now (caps .entry)) ⌝ }
+    requires { ⌜ (length (now calls) ≤ maxLines) × AllFit (now calls) (now caps) (now tidies) ⌝ }
+    ensures { λ r. ⌜ r ≡ burnt m k (now (calls .entry)) (now (caps .entry)) (now (tidies .entry)) ⌝ }
     ensures { λ r. ⌜ r ≤ maxLines * mostOfLine ⌝ }
 {
     let mut sum: u64 = 0;
     let mut i = 0;
     while i < calls.len() {
-        sum += line_burns(m, k, calls[i], caps[i]);
+        sum += line_burns(m, k, calls[i], caps[i], tidies[i]);
         i += 1;
     }
     sum
 }
 
-// N(2 + 2mK)L.
-fn line_burns(m: u64, k: u64, n: i64, l: i64) -> u64
+// N(2 + 2mK)(L + W).
+fn line_burns(m: u64, k: u64, n: i64, l: i64, w: i64) -> u64
     requires { ⌜ (m ≤ maxSize) × (k ≤ maxClusters) ⌝ }
-    requires { ⌜ (inRange 0 maxCalls n ≡ true) × (inRange 1 maxCap l ≡ true) ⌝ }
-    ensures { λ r. ⌜ r ≡ natAbs n * worst m k (natAbs l) ⌝ }
+    requires { ⌜ LineIn n l w ⌝ }
+    ensures { λ r. ⌜ r ≡ natAbs n * worst m k (natAbs l + natAbs w) ⌝ }
     ensures { λ r. ⌜ r ≤ mostOfLine ⌝ }
 {
-    whole(n) * ((2 + 2 * (m * k)) * whole(l))
+    let served = whole(l);
+    let tidied = whole(w);
+    whole(n) * ((2 + 2 * (m * k)) * (served + tidied))
 }
 
 // Whether x is a number from low to high.

@@ -11,7 +11,7 @@ use lib.Seq.{length-take-le}
 use Rattle.rules.specs.Limits.{maxLines}
 use Rattle.quote.proofs.Ranges.{read-back}
 use Rattle.numerals.specs.Numbers.{outOfRange}
-use Rattle.order.specs.Orders.{values, everyOther}
+use Rattle.order.specs.Orders.{values, everyThird}
 use Rattle.order.specs.Steps.{maxFields, inColumn, Column}
 use Rattle.order.proofs.Fields.{length-values}
 use Rattle.order.proofs.Placed.{placed-at}
@@ -40,11 +40,17 @@ column-requires c κs = search needs
 column-requires-2 : tie.Need-column-requires-2
 column-requires-2 c κs = search needs
 
+column-requires-3 : tie.Need-column-requires-3
+column-requires-3 c κs = search needs
+
 in-column-requires : tie.Need-in-column-requires
 in-column-requires c κs = search needs
 
 in-column-requires-2 : tie.Need-in-column-requires-2
 in-column-requires-2 c κs = search needs
+
+in-column-requires-3 : tie.Need-in-column-requires-3
+in-column-requires-3 c κs = search needs
 
 -- the text and the values of its fields, how many there are, and which
 abbrev text : tie.After-read-fields → List ℕ
@@ -62,9 +68,9 @@ at f j h = placed-at (fs f) (f .read-fields .last .1 .0) maxFields (f .read-fiel
 
 -- the first places of a column are there, and they are the column of the order
 abbrev Read : ℕ → ℕ → List ℤ → List ℤ → Type 0
-Read from k column vs = (k ≤ length column) × (take k column ≡ everyOther (drop from vs))
+Read from k column vs = (k ≤ length column) × (take k column ≡ everyThird (drop from vs))
 
-column-read : (f : tie.After-read-fields) → f .read-fields .result ≤ maxFields → (from : ℕ) → (4 ≤ from) × (from ≤ 5)
+column-read : (f : tie.After-read-fields) → f .read-fields .result ≤ maxFields → (from : ℕ) → (4 ≤ from) × (from ≤ 6)
     → (k : ℕ) → k ≡ inColumn (f .read-fields .result) from → (out : List ℤ)
     → (length out ≡ maxLines) × Column (f .read-fields .last .1 .0) from out → Read from k out (fs f)
 column-read f few from low k count out column =
@@ -73,27 +79,40 @@ column-read f few from low k count out column =
       there,
       ap (λ (n : ℕ). take n out) n
           ∙ column-is (fs f) from out (omega arith)
-          (λ i h. column .1 i (omega arith) ∙ at f (from + 2 * i) (omega arith)),
+          (λ i h. column .1 i (omega arith) ∙ at f (from + 3 * i) (omega arith)),
     )
 
--- those of N, and those of L, where the fields are read and are not too many
-abbrev fields-read : tie.After-in-column2 → tie.After-read-fields
-fields-read k = k .before .before .before .before .before .before .before .before
+-- those of N, of L and of W, where the fields are read and are not too many
+module _ (k : tie.After-in-column3) where
+  abbrev last-column : tie.After-column3
+  last-column = k .before .before .before
 
-few : (k : tie.After-in-column2) → fields-read k .read-fields .result ≤ maxFields
-few k = k .before .before .before .before .before .before .if2 .left
+  abbrev some-columns : tie.After-column2
+  some-columns = last-column .before .before
 
-calls : (k : tie.After-in-column2)
-    → Read 4 (k .before .in-column .result) (k .before .before .before .before .column .result) (fs (fields-read k))
-calls k = let column = k .before .before .before .before .column in
-    column-read (fields-read k) (few k) 4 (omega arith)
-    (k .before .in-column .result) (k .before .in-column .ensures) (column .result) (column .ensures)
+  abbrev first-column : tie.After-column
+  first-column = some-columns .before .before
 
-caps : (k : tie.After-in-column2)
-    → Read 5 (k .in-column2 .result) (k .before .before .column2 .result) (fs (fields-read k))
-caps k = let column = k .before .before .column2 in
-    column-read (fields-read k) (few k) 5 (omega arith)
-    (k .in-column2 .result) (k .in-column2 .ensures) (column .result) (column .ensures)
+  abbrev fields-read : tie.After-read-fields
+  fields-read = first-column .before .before .before .before
+
+  few : fields-read .read-fields .result ≤ maxFields
+  few = first-column .before .before .if2 .left
+
+  calls : Read 4 (k .before .before .in-column .result) (first-column .column .result) (fs fields-read)
+  calls = let count = k .before .before .in-column in
+      let column = first-column .column in
+      column-read fields-read few 4 (omega arith) (count .result) (count .ensures) (column .result) (column .ensures)
+
+  caps : Read 5 (k .before .in-column2 .result) (some-columns .column2 .result) (fs fields-read)
+  caps = let count = k .before .in-column2 in
+      let column = some-columns .column2 in
+      column-read fields-read few 5 (omega arith) (count .result) (count .ensures) (column .result) (column .ensures)
+
+  tidies : Read 6 (k .in-column3 .result) (last-column .column3 .result) (fs fields-read)
+  tidies = let count = k .in-column3 in
+      let column = last-column .column3 in
+      column-read fields-read few 6 (omega arith) (count .result) (count .ensures) (column .result) (column .ensures)
 
 array-copy-out-budget : tie.Need-array-copy-out-budget
 array-copy-out-budget c = search needs
@@ -112,20 +131,27 @@ array-share-prefix-calls c = calls (c .before .before .before .before) .0
 
 slice-aggregate-budget : tie.Need-slice-aggregate-budget
 slice-aggregate-budget c = let k = c .before .before .before .before .before in
-    sym (length-take-le (k .before .in-column .result) (k .before .before .before .before .column .result) (calls k .0))
+    sym (length-take-le (k .before .before .in-column .result) (first-column k .column .result) (calls k .0))
 
 array-share-prefix-caps : tie.Need-array-share-prefix-caps
 array-share-prefix-caps c = caps (c .before .before .before .before .before) .0
 
 slice-aggregate-budget-2 : tie.Need-slice-aggregate-budget-2
 slice-aggregate-budget-2 c = let k = c .before .before .before .before .before .before in
-    sym (length-take-le (k .in-column2 .result) (k .before .before .column2 .result) (caps k .0))
+    sym (length-take-le (k .before .in-column2 .result) (some-columns k .column2 .result) (caps k .0))
+
+array-share-prefix-tidies : tie.Need-array-share-prefix-tidies
+array-share-prefix-tidies c = tidies (c .before .before .before .before .before .before) .0
+
+slice-aggregate-budget-3 : tie.Need-slice-aggregate-budget-3
+slice-aggregate-budget-3 c = let k = c .before .before .before .before .before .before .before in
+    sym (length-take-le (k .in-column3 .result) (last-column k .column3 .result) (tidies k .0))
 
 budget-requires : tie.Need-budget-requires
 budget-requires c κs = search needs
 
 returns-3 : tie.Need-returns-3
-returns-3 c = let p = c .before .before .before in
+returns-3 c = let p = c .before .before .before .before in
     let k = p .before .before .before .before in
     let f = fields-read k in
     let v : ℕ → ℤ = λ j. getD (f .read-fields .last .1 .0) j (pos 0) in
@@ -137,6 +163,7 @@ returns-3 c = let p = c .before .before .before in
     (read-back (v 3) (p .budget-arg4 .given) ∙ at f 3 (omega arith))
     (calls k .1)
     (caps k .1)
+    (tidies k .1)
     ∙ sym (not-long (text f) (f .before .before .if1 .left))
 
 pub ask-spec : {M : Type 1} → statement M
@@ -149,8 +176,10 @@ ask-spec =
     returns-2
     column-requires
     column-requires-2
+    column-requires-3
     in-column-requires
     in-column-requires-2
+    in-column-requires-3
     array-copy-out-budget
     array-copy-out-budget-2
     array-copy-out-budget-3
@@ -159,5 +188,7 @@ ask-spec =
     slice-aggregate-budget
     array-share-prefix-caps
     slice-aggregate-budget-2
+    array-share-prefix-tidies
+    slice-aggregate-budget-3
     budget-requires
     returns-3)

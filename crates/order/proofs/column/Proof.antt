@@ -15,7 +15,7 @@ abbrev Inv-loop : tie.InvT-loop
 Inv-loop v from out₀ i₀ out i =
     (i ≤ maxLines)
     × (length out ≡ maxLines)
-    × ((q : ℕ) → q < i → getD out q (pos 0) ≡ getD v (from + 2 * q) (pos 0))
+    × ((q : ℕ) → q < i → getD out q (pos 0) ≡ getD v (from + 3 * q) (pos 0))
 
 abbrev μ-loop : tie.MeasureT-loop
 μ-loop v from out₀ i₀ out i = maxLines - i
@@ -50,7 +50,7 @@ loop-less c = omega arith
 loop-again : tie.Need-loop-again Inv-loop μ-loop
 loop-again c = let l = c .before .before in
     let a = l .before .args in
-    let f : ℕ → ℤ = λ q. getD (a .v .now) (a .from + 2 * q) (pos 0) in
+    let f : ℕ → ℤ = λ q. getD (a .v .now) (a .from + 3 * q) (pos 0) in
     let x = f (l .loop .i) in (
       omega arith,
       simp length-set (l .loop .inv .1),

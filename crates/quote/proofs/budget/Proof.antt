@@ -6,16 +6,20 @@ use native.Mathlib.Omega.{arith}
 use mathlib.Core.Path.{_≡_, sym, ap, _∙_}
 use lib.IntN.{natAbs}
 use lib.ListN.{length}
-use Rattle.rules.specs.Quote.{Order, orderOf, burnt, budgetOf}
+use Rattle.rules.specs.Limits.{maxLines}
+use Rattle.rules.specs.Quote.{Order, orderOf, burnt, budgetOf, Even}
 use Rattle.quote.specs.Steps.{fieldsOut}
 use Rattle.quote.proofs.Ranges.{read-back}
-use Rattle.quote.proofs.Answers.{AllIn, all-in, many-lines, uneven, field-out, over-period, in-period}
+use Rattle.quote.proofs.Answers.{AllIn, all-in, many-lines, uneven, tidies-uneven, field-out, over-period}
+use Rattle.quote.proofs.Answers.{in-period}
 use Rattle.quote.proofs.budget.Statement.{statement}
 use Rattle.quote.proofs.budget.Tie as tie
 
 -- the order that was handed over
 abbrev order : tie.Start → Order
-order s = orderOf (s .args .e) (s .args .p) (s .args .m) (s .args .k) (s .args .calls .now) (s .args .caps .now)
+order s =
+    orderOf (s .args .e) (s .args .p) (s .args .m) (s .args .k)
+    (s .args .calls .now) (s .args .caps .now) (s .args .tidies .now)
 
 returns : tie.Need-returns
 returns c = sym (many-lines (order (c .before)) (c .if1 .taken))
@@ -23,18 +27,29 @@ returns c = sym (many-lines (order (c .before)) (c .if1 .taken))
 returns-2 : tie.Need-returns-2
 returns-2 c = sym (uneven (order (c .before .before)) (c .before .if1 .left) (c .if2 .taken))
 
+returns-3 : tie.Need-returns-3
+returns-3 c = let few = c .before .before .if1 .left in
+    sym (tidies-uneven (order (c .before .before .before)) few (c .before .if2 .left) (c .if3 .taken))
+
+-- there are not too many lines, and the columns are equally long
+few-lines : (c : tie.Else3) → length (order (c .before .before .before) .calls) ≤ maxLines
+few-lines c = c .before .before .if1 .left
+
+even : (c : tie.Else3) → let o = order (c .before .before .before) in Even (o .calls) (o .caps) (o .tidies)
+even c = (c .before .if2 .left, c .if3 .left)
+
 first-out-requires : tie.Need-first-out-requires
-first-out-requires c κs = search needs
+first-out-requires c κs = (even c, few-lines c)
 
-mul-if3 : tie.Need-mul-if3
-mul-if3 c = search needs
+mul-if4 : tie.Need-mul-if4
+mul-if4 c = search needs
 
-add-if3 : tie.Need-add-if3
-add-if3 c = search needs
+add-if4 : tie.Need-add-if4
+add-if4 c = search needs
 
 -- the place is that of the rules
-placed : (c : tie.After-first-out) → c .first-out .result ≡ fieldsOut (order (c .before .before .before))
-placed c = let s = c .before .before .before in
+placed : (c : tie.After-first-out) → c .first-out .result ≡ fieldsOut (order (c .before .before .before .before))
+placed c = let s = c .before .before .before .before in
     c .first-out .ensures
     ∙ rw (
       read-back (s .args .e) (s .fits .e .sfits),
@@ -43,36 +58,38 @@ placed c = let s = c .before .before .before in
       read-back (s .args .k) (s .fits .k .sfits),
     )
 
-returns-3 : tie.Need-returns-3
-returns-3 c = let s = c .before .before .before .before in
+returns-4 : tie.Need-returns-4
+returns-4 c = let lines = c .before .before in
     let p = placed (c .before) in
-    let few = c .before .before .before .if1 .left in
-    rw p (sym (field-out (order s) few (c .before .before .if2 .left) (rw p at (c .if3 .taken))))
+    let o = order (lines .before .before .before) in
+    rw p (sym (field-out o (few-lines lines) (even lines) (rw p at (c .if4 .taken))))
 
 -- past the tests of the fields
-last-place : (c : tie.Else3) → 4 + 2 * length (order (c .before .before .before .before) .calls)
-    ≤ fieldsOut (order (c .before .before .before .before))
+abbrev given : tie.Else4 → tie.Start
+given c = c .before .before .before .before .before
+
+last-place : (c : tie.Else4) → 4 + 3 * length (order (given c) .calls) ≤ fieldsOut (order (given c))
 last-place c = omega (arith, placed (c .before))
 
-fields-in : (c : tie.Else3) → AllIn (order (c .before .before .before .before))
-fields-in c = all-in (order (c .before .before .before .before)) (c .before .before .if2 .left) (last-place c)
+fields-in : (c : tie.Else4) → AllIn (order (given c))
+fields-in c = all-in (order (given c)) (even (c .before .before)) (last-place c)
 
 whole-requires : tie.Need-whole-requires
-whole-requires c κs = let s = c .before .before .before .before in
+whole-requires c κs = let s = given c in
     rw (read-back (s .args .e) (s .fits .e .sfits)) (fields-in c .work .sign)
 
 whole-requires-2 : tie.Need-whole-requires-2
-whole-requires-2 c κs = let s = c .before .before .before .before .before in
+whole-requires-2 c κs = let s = given (c .before) in
     rw (read-back (s .args .m) (s .fits .m .sfits)) (fields-in (c .before) .size .sign)
 
 whole-requires-3 : tie.Need-whole-requires-3
-whole-requires-3 c κs = let s = c .before .before .before .before .before .before in
+whole-requires-3 c κs = let s = given (c .before .before) in
     rw (read-back (s .args .k) (s .fits .k .sfits)) (fields-in (c .before .before) .clusters .sign)
 
 -- what `whole` answers of e, m and K
 module _ (c : tie.After-whole3) where
   abbrev start : tie.Start
-  start = c .before .before .before .before .before .before .before
+  start = given (c .before .before .before)
 
   work : c .before .before .whole .result ≡ natAbs (start .args .e)
   work = c .before .before .whole .ensures ∙ ap natAbs (read-back (start .args .e) (start .fits .e .sfits))
@@ -85,9 +102,9 @@ module _ (c : tie.After-whole3) where
 
 lines-burn-requires : tie.Need-lines-burn-requires
 lines-burn-requires c κs = let all = fields-in (c .before .before .before) in
-    let few = c .before .before .before .before .before .before .if1 .left in (
+    let lines = c .before .before .before .before .before in (
       (omega (arith, size c, all .size .most), omega (arith, clusters c, all .clusters .most)),
-      (few, all .lines),
+      (few-lines lines, all .lines),
     )
 
 add-sum : tie.Need-add-sum
@@ -99,7 +116,7 @@ whole-requires-4 c κs = let s = start (c .before) in
     rw (read-back (s .args .p) (s .fits .p .sfits)) (fields-in (c .before .before .before .before) .period .sign)
 
 total : {e m K b : ℕ} (o : Order) → e ≡ natAbs (o .work) → m ≡ natAbs (o .size) → K ≡ natAbs (o .clusters)
-    → b ≡ burnt m K (o .calls) (o .caps) → e + b ≡ budgetOf o
+    → b ≡ burnt m K (o .calls) (o .caps) (o .tidies) → e + b ≡ budgetOf o
 total o e m K b = rw (b, e, m, K)
 
 -- the sum is the budget of the rules, and what it is compared with is the period
@@ -112,22 +129,21 @@ period : (c : tie.After-whole4) → c .whole4 .result ≡ natAbs (start (c .befo
 period c = let s = start (c .before .before) in
     c .whole4 .ensures ∙ ap natAbs (read-back (s .args .p) (s .fits .p .sfits))
 
-returns-4 : tie.Need-returns-4
-returns-4 c = let b = c .before .before in
-    let e = b .before .before .before .before in
-    let within : budgetOf (order (start (b .before))) ≤ natAbs (start (b .before) .args .p)
-    = omega (arith, summed b, period (c .before), c .if4 .taken) in
-    let few = e .before .before .before .if1 .left in
-    let even = e .before .before .if2 .left in
-    rw (summed b) (sym (in-period (order (start (b .before))) few even (last-place e) within))
-
 returns-5 : tie.Need-returns-5
 returns-5 c = let b = c .before .before in
     let e = b .before .before .before .before in
-    let few = e .before .before .before .if1 .left in
+    let lines = e .before .before in
+    let within : budgetOf (order (start (b .before))) ≤ natAbs (start (b .before) .args .p)
+    = omega (arith, summed b, period (c .before), c .if5 .taken) in
+    rw (summed b) (sym (in-period (order (given e)) (few-lines lines) (even lines) (last-place e) within))
+
+returns-6 : tie.Need-returns-6
+returns-6 c = let b = c .before .before in
+    let e = b .before .before .before .before in
+    let lines = e .before .before in
     sym (
-    over-period (order (start (b .before))) few (e .before .before .if2 .left) (last-place e)
-    (omega (arith, summed b, period (c .before), c .if4 .left))
+    over-period (order (given e)) (few-lines lines) (even lines) (last-place e)
+    (omega (arith, summed b, period (c .before), c .if5 .left))
     )
 
 pub budget-spec : {M : Type 1} → statement M
@@ -136,15 +152,16 @@ budget-spec =
     (tie.spec
     returns
     returns-2
-    first-out-requires
-    mul-if3
-    add-if3
     returns-3
+    first-out-requires
+    mul-if4
+    add-if4
+    returns-4
     whole-requires
     whole-requires-2
     whole-requires-3
     lines-burn-requires
     add-sum
     whole-requires-4
-    returns-4
-    returns-5)
+    returns-5
+    returns-6)
