@@ -1,4 +1,4 @@
-# Draws the cases of door_cases, and writes what the model of document 01 (tools/gate_model.py) says of each:
+# Draws the cases of door_cases, and writes what the model (tools/gate_model.py) says of each:
 #   python3 tools/draw_doors.py                        crates/door_cases/stdin and stdout
 #   python3 tools/draw_doors.py SEED COUNT IN OUT      COUNT other cases
 # A case is a gate's bytes, a record's code and its argument. A line is 1 for a sound gate or 0, the answer, and each
@@ -7,18 +7,19 @@ import random
 import struct
 import sys
 from gate_damage import any_client, damaged
-from gate_model import (SOUND, LIMIT, IDLE, FRONT, BEST, SPENT, fresh, used, waiting, is_blocked, holds, broken, sound,
-                        join, step, step_sound)
+from gate_model import (SOUND, LIMIT, IDLE, FRONT, BEST, SPENT, TIDYING, fresh, used, waiting, serves, cap, is_blocked,
+                        holds, broken, sound, join, step, step_sound)
 
 
 def draw_setup(r):
     K = r.choice((1, 1, 2, 3, 8, r.randint(1, 8)))
     N = r.choice((0, 1, 4, 10, 20, 40, 64, 64, r.randint(0, 64), r.randint(0, 64)))
     L = r.choice((1, 10, 100, 65535, r.randint(1, 65535)))
+    W = r.choice((0, 1, 5, 65535, L, r.randint(0, 65535)))
     sizes = [r.choice((1, 1, 2, 3, 8, r.randint(1, 8))) for _ in range(K)]
     best = r.choice((0, 0.1, 0.2, 0.5, r.random()))
     span = r.choice((0, 3, 65535))
-    return fresh(K, N, L, sizes, [(int(r.random() < best), r.randrange(K), r.randint(0, span)) for _ in range(N)])
+    return fresh(K, N, L, W, sizes, [(int(r.random() < best), r.randrange(K), r.randint(0, span)) for _ in range(N)])
 
 
 # RECORDS
@@ -30,15 +31,16 @@ def draw_client(r, g):
 def draw_record(r, g):
     t = r.random()
     if t < 0.05:
-        return r.choice((0, 5, 255, r.randrange(256))), r.choice((0, 1, 65535))
+        return r.choice((0, 6, 255, r.randrange(256))), r.choice((0, 1, 65535))
     if t < 0.3:
-        return 1, g.served if g.server != IDLE and r.random() < 0.1 else draw_client(r, g)
+        return 1, g.served if serves(g) and r.random() < 0.1 else draw_client(r, g)
     if t < 0.6:
-        left = max(g.L - g.units, 0)
+        left = max(cap(g) - g.units, 0)
         return 2, r.choice((r.randint(0, left), left, left, left + 1, 0, 1, 65535)) % 65536
-    if t < 0.75:
-        return 3, r.choice((0, 0, 0, 0, 0, 0, 1, 256))
-    if g.server != IDLE and r.random() < 0.2:
+    if t < 0.8:
+        likely = 5 if g.server == TIDYING else 3
+        return r.choice((likely, likely, likely, 8 - likely)), r.choice((0, 0, 0, 0, 0, 0, 1, 256))
+    if serves(g) and r.random() < 0.2:
         return 4, g.served
     queued = [c for k in range(min(g.K, 8)) for c in waiting(g, k)]
     return 4, r.choice(queued) if queued and r.random() < 0.8 else draw_client(r, g)
@@ -72,12 +74,14 @@ def drawn(r):
     best = [c for c in clients if g.kinds[c] == 1]
     for c in real:
         g.charges[c] = r.choice((0, 1, LIMIT, LIMIT - 1, LIMIT - r.randrange(100), r.randint(0, LIMIT)))
-    server = r.choice((IDLE, FRONT, FRONT, BEST, SPENT, SPENT))
-    if server == BEST and best or server == SPENT and real:
+    server = r.choice((IDLE, FRONT, FRONT, BEST, SPENT, SPENT, TIDYING, TIDYING))
+    if server == TIDYING:
+        g.server = TIDYING
+    elif server == BEST and best or server == SPENT and real:
         g.server, g.served = server, (best if server == BEST else real).pop()
     elif server != FRONT or not real:
         return g
-    for c in real[:r.randint(1, len(real))] if real else []:
+    for c in real[:r.randint(0 if server == TIDYING else 1, len(real))] if real else []:
         k = g.homes[c]
         if len(used(g.lines[k])) < g.sizes[k]:
             join(g.lines[k], c)
@@ -91,7 +95,7 @@ def drawn(r):
         join(g.queue, c)
     for c in best[:r.randint(0, len(best))]:
         join(g.background, c)
-    g.units = r.choice((0, g.L, g.L - 1, r.randint(0, g.L)))
+    g.units = r.choice((0, cap(g), max(cap(g) - 1, 0), r.randint(0, cap(g))))
     return g
 
 
@@ -124,8 +128,8 @@ def gates(r, count):
     """The empty gate, and one that has no cluster but a cap; then, of five, two that are reached, one that is drawn,
     one that breaks a part of soundness, each in its turn, and one with any damage; last, a size of 9."""
     pool = [draw(r) for _ in range(150) for draw in (reached, drawn)]
-    yield fresh(0, 0, 0, [], [])
-    yield fresh(0, 0, 1, [], [])
+    yield fresh(0, 0, 0, 0, [], [])
+    yield fresh(0, 0, 1, 0, [], [])
     for i in range(count - 3):
         if i % 5 < 3:
             yield (reached, drawn, reached)[i % 5](r)
@@ -133,7 +137,7 @@ def gates(r, count):
             yield harmed(r, pool, SOUND[i // 5 % len(SOUND)])
         else:
             yield changed(r, pool)
-    yield fresh(1, 0, 1, [9], [])
+    yield fresh(1, 0, 1, 0, [9], [])
 
 
 def told(g, record):

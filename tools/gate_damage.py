@@ -1,7 +1,8 @@
 # Damage to a sound gate: one thing changed. Some of it may as well leave the gate sound, so that the line is tried from
 # both sides. A damage changes nothing where the gate has no place for it.
-from gate_model import (LAYOUT, UNUSED, LIMIT, IDLE, FRONT, BEST, SPENT, used, room, queues, waits, is_spent, join,
-                        leave)
+import gate_model
+from gate_model import (LAYOUT, UNUSED, LIMIT, IDLE, FRONT, BEST, SPENT, TIDYING, used, room, queues, waits, serves,
+                        is_spent, join, leave)
 
 def any_client(r, g):
     return r.choice((r.randrange(g.N) if g.N else 0, max(g.N - 1, 0), g.N, 64, 255, 65535))
@@ -14,7 +15,11 @@ def clusters(r, g):
 
 
 def cap(r, g):
-    g.L = r.choice((0, g.units, max(g.units - 1, 0)))
+    g.L = r.choice((0, g.units, max(g.units - 1, 0))) % 65536
+
+
+def tidy(r, g):
+    g.W = r.choice((0, g.units, max(g.units - 1, 0))) % 65536
 
 
 def clients(r, g):
@@ -182,17 +187,21 @@ def blocked_front_queued(r, g):
 # THE SERVER
 
 def server_case(r, g):
-    if g.server != IDLE:
+    if serves(g):
         g.server = r.choice((FRONT, BEST, SPENT))
 
 
 def served(r, g):
-    if g.server != IDLE:
+    if serves(g):
         g.served = r.choice((any_client(r, g), g.N, g.served + 256, g.served + 1)) % 65536
 
 
 def falls_idle(r, g):
     g.server, g.served, g.units = IDLE, 0, r.choice((0, g.units))
+
+
+def falls_tidying(r, g):
+    g.server, g.served, g.units = TIDYING, 0, r.choice((0, g.units, g.W, g.W + 1))
 
 
 def idle_units(r, g):
@@ -207,7 +216,8 @@ def serves_another(r, g):
 
 def units(r, g):
     if g.server != IDLE:
-        g.units = r.choice((0, g.L, g.L + 1, g.L + 65536, 4294967295))
+        cap = gate_model.cap(g)
+        g.units = r.choice((0, cap, cap + 1, cap + 65536, 4294967295, g.L, g.W))
 
 
 # CHARGES
@@ -224,8 +234,8 @@ def charge(r, g):
         g.charges[r.choice(real)] = r.choice((LIMIT, LIMIT, LIMIT + 1, LIMIT + 1, 2 ** 31, 2 ** 32 - 1))
 
 
-# ANY BYTES, but those of the server: other cases than four are no gate.
-BYTES = [i for i in range(LAYOUT.size) if i not in range(468, 471)]
+# ANY BYTES, but those of the server: other cases than five are no gate.
+BYTES = [i for i in range(LAYOUT.size) if i not in range(470, 473)]
 
 
 def overwrite(r, g, times):
@@ -244,10 +254,10 @@ def noise(r, g):
     overwrite(r, g, r.choice((2, 10, 100, 2000)))
 
 
-DAMAGES = [clusters, cap, clients, size, kind, home, priority, size_past, row_past, gap, number, room_number, line_past,
+DAMAGES = [clusters, cap, tidy, clients, size, kind, home, priority, size_past, row_past, gap, number, room_number, line_past,
            room_past, newcomer, newcomer_in_room, newcomer_in_background, leaver, room_leaver, twice, twice_in_room,
            spent_again, line_swap, queue_swap, queue_other, queued_twice, served_queued, blocked_front_queued,
-           server_case, served, falls_idle, idle_units, serves_another, units, best_charge, charge, byte, noise]
+           server_case, served, falls_idle, falls_tidying, idle_units, serves_another, units, best_charge, charge, byte, noise]
 
 
 def damaged(r, g):

@@ -1,15 +1,16 @@
-# A plain model of the gate, written from document 01 alone: what a sound gate is, and what a record does to one.
+# A plain model of the gate, written from document 01 and what request 2 of document 02 changes in it: what a sound gate
+# is, and what a record does to one.
 # It shares nothing with the crates but the layout of a gate as bytes. Used by tools/draw_doors.py.
 import struct
 
 UNUSED = 255
-LIMIT = 16777215
-IDLE, FRONT, BEST, SPENT = 0, 1, 2, 3
+LIMIT = 33554431
+IDLE, FRONT, BEST, SPENT, TIDYING = 0, 1, 2, 3, 4
 
-# The layout, numbers with their low byte first: K, N, L, 8 sizes, 64 kinds, 64 clusters, 64 priorities, 8 lines of 8
+# The layout, numbers with their low byte first: K, N, L, W, 8 sizes, 64 kinds, 64 clusters, 64 priorities, 8 lines of 8
 # places, 8 waiting rooms, 8 places of the global queue, 64 of the background queue, the server's case and its client
-# (0 when idle), the units served, 64 charges.
-LAYOUT = struct.Struct('<BBH8s64s64s64H64s8Q8s64sBHI64I')
+# (0 when idle or tidying), the units served or tidied, 64 charges.
+LAYOUT = struct.Struct('<BBHH8s64s64s64H64s8Q8s64sBHI64I')
 
 
 class Gate:
@@ -20,17 +21,17 @@ class Gate:
 
     def read(g, data):
         f = list(LAYOUT.unpack(data))
-        g.K, g.N, g.L = f[0:3]
-        g.sizes, g.kinds, g.homes = (list(b) for b in f[3:6])
-        g.priorities = f[6:70]
-        g.lines = [list(f[70][8 * k:8 * k + 8]) for k in range(8)]
-        g.rooms = f[71:79]
-        g.queue, g.background = list(f[79]), list(f[80])
-        g.server, g.served, g.units = f[81:84]
-        g.charges = f[84:148]
+        g.K, g.N, g.L, g.W = f[0:4]
+        g.sizes, g.kinds, g.homes = (list(b) for b in f[4:7])
+        g.priorities = f[7:71]
+        g.lines = [list(f[71][8 * k:8 * k + 8]) for k in range(8)]
+        g.rooms = f[72:80]
+        g.queue, g.background = list(f[80]), list(f[81])
+        g.server, g.served, g.units = f[82:85]
+        g.charges = f[85:149]
 
     def data(g):
-        return LAYOUT.pack(g.K, g.N, g.L, bytes(g.sizes), bytes(g.kinds), bytes(g.homes), *g.priorities,
+        return LAYOUT.pack(g.K, g.N, g.L, g.W, bytes(g.sizes), bytes(g.kinds), bytes(g.homes), *g.priorities,
                            bytes(sum(g.lines, [])), *g.rooms, bytes(g.queue), bytes(g.background),
                            g.server, g.served, g.units, *g.charges)
 
@@ -38,10 +39,10 @@ class Gate:
         return Gate(g.data())
 
 
-def fresh(K, N, L, sizes, rows):
+def fresh(K, N, L, W, sizes, rows):
     """The fresh gate of a setup; a row is (kind, cluster, priority)."""
     g = Gate(bytes(LAYOUT.size))
-    g.K, g.N, g.L = K, N, L
+    g.K, g.N, g.L, g.W = K, N, L, W
     g.sizes[:K] = sizes
     for c, (kind, home, priority) in enumerate(rows):
         g.kinds[c], g.homes[c], g.priorities[c] = kind, home, priority
@@ -69,6 +70,16 @@ def waits(g, c):
     """Whether a client waits: in a line, a waiting room or the background queue, or in service and not spent."""
     queued = any(c in waiting(g, k) for k in range(g.K)) or c in used(g.background)
     return queued or (g.server in (FRONT, BEST) and g.served == c)
+
+
+def serves(g):
+    """Whether some client is in service."""
+    return g.server in (FRONT, BEST, SPENT)
+
+
+def cap(g):
+    """What the units may come to: W while the server tidies, else L."""
+    return g.W if g.server == TIDYING else g.L
 
 
 def is_spent(g, c):
@@ -134,8 +145,9 @@ SOUND = (
     ('rooms past K are empty', lambda g: all(k < g.K for c, k in roomed(g))),
     ('a line has at most m clients', lambda g: all(len(used(g.lines[k])) <= g.sizes[k] for k in range(g.K))),
     ('units served are 0 when idle', lambda g: g.server != IDLE or g.units == 0),
-    ('units served are at most L', lambda g: g.units <= g.L),
-    ('the client in service is below N', lambda g: g.server == IDLE or g.served < g.N),
+    ('units served are at most L', lambda g: g.server == TIDYING or g.units <= g.L),
+    ('units tidied are at most W', lambda g: g.server != TIDYING or g.units <= g.W),
+    ('the client in service is below N', lambda g: not serves(g) or g.served < g.N),
     ('a front in service is in its line', lambda g: g.server != FRONT or g.served in g.lines[g.homes[g.served]]),
     ('a front in service is not behind another there',
      lambda g: g.server != FRONT or g.served not in g.lines[g.homes[g.served]][1:]),
@@ -158,7 +170,7 @@ SOUND = (
     ('an idle server means that no real-time client waits', lambda g: g.server != IDLE or lined(g) + roomed(g) == []),
     ('an idle server means that no best-effort client waits', lambda g: g.server != IDLE or used(g.background) == []),
     ('best-effort charges are 0', lambda g: not any(g.charges[c] for c in range(g.N) if g.kinds[c] == 1)),
-    ('no charge is over 16,777,215', lambda g: all(x <= LIMIT for x in g.charges)),
+    ('no charge is over 33,554,431', lambda g: all(x <= LIMIT for x in g.charges)),
 )
 
 
@@ -178,7 +190,7 @@ def sound(g):
     return broken(g) == []
 
 
-# THE FOUR EVENTS
+# THE FIVE EVENTS
 
 def join(places, c):
     places[places.index(UNUSED)] = c
@@ -248,7 +260,7 @@ def run(g, n):
         return 13
     if g.server == IDLE:
         return 12
-    if g.units + n > g.L:
+    if g.units + n > cap(g):
         return 14
     if any(g.charges[c] + n > LIMIT for c in charged(g)):
         return 19
@@ -259,15 +271,22 @@ def run(g, n):
 
 
 def reply(g):
-    if g.server == IDLE:
+    if not serves(g):
         return 12
     was, c, k = g.server, g.served, g.homes[g.served]
-    g.server, g.served = IDLE, 0
+    g.server, g.served, g.units = TIDYING, 0, 0
     if was == FRONT:
         leave(g.lines[k], c)
         refill(g, k)
     if was in (FRONT, SPENT):
         join_front(g, k)
+    return 0
+
+
+def ready(g):
+    """The event that document 02 calls wait."""
+    if g.server != TIDYING:
+        return 26
     pick(g)
     return 0
 
@@ -298,11 +317,12 @@ def abort(g, c):
 
 def step_sound(g, code, argument):
     """The answer to a record and the gate after it; the same gate where it is refused."""
-    if code not in (1, 2, 3, 4) or (code == 3 and argument != 0):
+    if code not in (1, 2, 3, 4, 5) or (code in (3, 5) and argument != 0):
         return 18, g
     after = g.copy()
-    event = {1: invoke, 2: run, 4: abort}
-    answer = reply(after) if code == 3 else event[code](after, argument)
+    event = {1: lambda: invoke(after, argument), 2: lambda: run(after, argument), 3: lambda: reply(after),
+             4: lambda: abort(after, argument), 5: lambda: ready(after)}
+    answer = event[code]()
     return answer, after if answer == 0 else g
 
 

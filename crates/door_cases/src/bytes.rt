@@ -43,11 +43,12 @@ fn server_byte(s: Server, j: usize) -> u8
         Server::Front(c) => client_byte(c, 1, j),
         Server::Best(c) => client_byte(c, 2, j),
         Server::Spent(c) => client_byte(c, 3, j),
+        Server::Tidying => client_byte(Client(0), 4, j),
     }
 }
 
 fn setup_byte(s: Setup, i: usize) -> u8
-    requires { ⌜ i < 268 ⌝ }
+    requires { ⌜ i < 270 ⌝ }
 {
     if i >= KINDS {
         return row_byte(s, i);
@@ -58,15 +59,18 @@ fn setup_byte(s: Setup, i: usize) -> u8
     if i == 1 {
         return s.clients;
     }
-    if i < SIZES {
+    if i < 4 {
         return octet_of(wide16(s.cap), i - 2);
+    }
+    if i < SIZES {
+        return octet_of(wide16(s.tidy), i - 4);
     }
     s.sizes[i - SIZES]
 }
 
 // A byte of the kinds, clusters and priorities.
 fn row_byte(s: Setup, i: usize) -> u8
-    requires { ⌜ (12 ≤ i) × (i < 268) ⌝ }
+    requires { ⌜ (14 ≤ i) × (i < 270) ⌝ }
 {
     if i < HOMES {
         return s.kinds[i - KINDS];
@@ -79,7 +83,7 @@ fn row_byte(s: Setup, i: usize) -> u8
 
 // A byte of the lines, the waiting rooms and the global queue.
 fn queue_byte(g: Gate, i: usize) -> u8
-    requires { ⌜ (268 ≤ i) × (i < 404) ⌝ }
+    requires { ⌜ (270 ≤ i) × (i < 406) ⌝ }
 {
     if i < ROOMS {
         let line = g.lines[(i - LINES) / 8];
@@ -93,7 +97,7 @@ fn queue_byte(g: Gate, i: usize) -> u8
 
 // A byte of the background queue, the server, the units and the charges.
 fn service_byte(g: Gate, i: usize) -> u8
-    requires { ⌜ (404 ≤ i) × (i < 731) ⌝ }
+    requires { ⌜ (406 ≤ i) × (i < 733) ⌝ }
 {
     if i < SERVER {
         return g.background[i - BACKGROUND];
@@ -109,7 +113,7 @@ fn service_byte(g: Gate, i: usize) -> u8
 
 // Byte i of a gate.
 pub fn byte_of(g: Gate, i: usize) -> u8
-    requires { ⌜ i < 731 ⌝ }
+    requires { ⌜ i < 733 ⌝ }
 {
     if i < LINES {
         return setup_byte(g.setup, i);

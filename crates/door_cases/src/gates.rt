@@ -1,6 +1,6 @@
-// A gate as bytes: every field in its turn, numbers with their low byte first. K, N, L, 8 sizes, 64 kinds, 64 clusters,
-// 64 priorities, 8 lines of 8 places, 8 waiting rooms, 8 places of the global queue, 64 of the background queue, the
-// server's case and its client (0 when idle), the units served, 64 charges.
+// A gate as bytes: every field in its turn, numbers with their low byte first. K, N, L, W, 8 sizes, 64 kinds, 64
+// clusters, 64 priorities, 8 lines of 8 places, 8 waiting rooms, 8 places of the global queue, 64 of the background
+// queue, the server's case and its client (0 when idle or tidying), the units served or tidied, 64 charges.
 
 use gate::Client;
 use gate::Gate;
@@ -12,30 +12,30 @@ use layout::word_at;
 ghost use Prim.Native.Nat.{_<_};
 
 // The bytes of a gate.
-pub const GATE: usize = 731;
+pub const GATE: usize = 733;
 
 // Where each field begins.
-pub const SIZES: usize = 4;
+pub const SIZES: usize = 6;
 
-pub const KINDS: usize = 12;
+pub const KINDS: usize = 14;
 
-pub const HOMES: usize = 76;
+pub const HOMES: usize = 78;
 
-pub const PRIORITIES: usize = 140;
+pub const PRIORITIES: usize = 142;
 
-pub const LINES: usize = 268;
+pub const LINES: usize = 270;
 
-pub const ROOMS: usize = 332;
+pub const ROOMS: usize = 334;
 
-pub const GLOBAL: usize = 396;
+pub const GLOBAL: usize = 398;
 
-pub const BACKGROUND: usize = 404;
+pub const BACKGROUND: usize = 406;
 
-pub const SERVER: usize = 468;
+pub const SERVER: usize = 470;
 
-pub const UNITS: usize = 471;
+pub const UNITS: usize = 473;
 
-pub const CHARGES: usize = 475;
+pub const CHARGES: usize = 477;
 
 fn long(low: u16, high: u16) -> u32 {
     low as u32 + 65536 * (high as u32)
@@ -107,7 +107,7 @@ fn rooms_in(b: &[u8]) -> [u64; 8] {
     ]
 }
 
-// 1 a front, 2 a best-effort client, 3 a spent client; idle for 0, and for what is no case.
+// 1 a front, 2 a best-effort client, 3 a spent client, 4 tidying; idle for 0, and for what is no case.
 fn server_in(b: &[u8]) -> Server {
     let code = byte_at(b, SERVER);
     let c = Client(word_at(b, SERVER + 1));
@@ -119,6 +119,9 @@ fn server_in(b: &[u8]) -> Server {
     }
     if code == 3 {
         return Server::Spent(c);
+    }
+    if code == 4 {
+        return Server::Tidying;
     }
     Server::Idle
 }
@@ -133,6 +136,7 @@ fn without_columns(b: &[u8]) -> Gate {
         clusters: byte_at(b, 0),
         clients: byte_at(b, 1),
         cap: word_at(b, 2),
+        tidy: word_at(b, 4),
         sizes: sizes,
         kinds: kinds,
         homes: homes,

@@ -107,7 +107,7 @@ fn put_answer(out: &mut [u8; LINE], f: u8, n: u64) -> usize
 // Each byte of a gate that differs from the case's own.
 fn put_changes(out: &mut [u8; LINE], at: usize, case: &[u8], g: Gate) -> usize
     requires { ⌜ at ≤ 22 ⌝ }
-    ensures { λ r. ⌜ r ≤ at + 42 * 731 ⌝ }
+    ensures { λ r. ⌜ r ≤ at + 42 * 733 ⌝ }
 {
     let mut end = at;
     let mut i: usize = 0;
@@ -119,7 +119,7 @@ fn put_changes(out: &mut [u8; LINE], at: usize, case: &[u8], g: Gate) -> usize
 }
 
 fn put_change(out: &mut [u8; LINE], at: usize, i: usize, old: u8, new: u8) -> usize
-    requires { ⌜ at + 42 ≤ 30725 ⌝ }
+    requires { ⌜ at + 42 ≤ 30809 ⌝ }
     ensures { λ r. ⌜ r ≤ at + 42 ⌝ }
 {
     if old == new {
