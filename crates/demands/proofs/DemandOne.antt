@@ -5,7 +5,6 @@ use mathlib.Core.Path.{_≡_, refl, ap, _∙_}
 use mathlib.Core.Bool.{true, false, _||_}
 use lib.Dec.{eqb, ltb, leb}
 use mathlib.Core.List.{List, [], _∷_, _++_, map}
-use mathlib.Core.Option.{Option, some, none}
 use lib.ListN.{length}
 use borrow.Author.Tests.{ne-eqb}
 use Rattle.rules.specs.Limits.{maxClients}
@@ -13,11 +12,11 @@ use Rattle.rules.specs.Refusals.{accepted, unsound, fieldOut, logCut}
 use Rattle.rules.specs.Setup as rules
 use Rattle.rules.specs.Setup.{realTime, clustersFit, firstBadSize, firstBadRow, setupAnswer}
 use Rattle.rules.specs.Lists.{has}
-use Rattle.rules.specs.State.{State, fresh, isIdle, isSpent}
+use Rattle.rules.specs.State.{State, fresh, isIdle, isSpent, isServing, isTidying, capOf}
 use Rattle.rules.specs.Queues.{waits}
-use Rattle.rules.specs.Events.{Event, invoke, run, reply, abort}
+use Rattle.rules.specs.Events.{Event, invoke, run, reply, abort, ready}
 use Rattle.rules.specs.Step.{present, overcharges, answer}
-use Rattle.rules.specs.Records.{Record, eventOf, answerOf, stepOf}
+use Rattle.rules.specs.Records.{Heard, known, replyReady, unknown, answerOf, stepOf}
 use Rattle.rules.specs.Replay.{Entry, entriesFrom}
 use Rattle.rules.specs.Quote.{Order, quote, AllTrue}
 use Rattle.rules.proofs.Tests.{by-test}
@@ -41,10 +40,10 @@ use Rattle.log.specs.declared.Opening.the-variants.{Records, Refused}
 use Rattle.log.specs.declared.Refusal.{Refusal}
 use Rattle.log.specs.declared.Refusal.the-variants.{Long, Short, BadMark, BadVersion, BadClusters, NoCap}
 use Rattle.log.specs.declared.Refusal.the-variants.{ManyClients, CutTables, BadSize, BadRow, CutRecord}
-use Rattle.layout.specs.Tables.{setupIn}
+use Rattle.layout.specs.Tables.{versionIn, setupIn}
 use Rattle.log.specs.Opening.{told, openingOf}
 use Rattle.layout.specs.Layout.{recordSize}
-use Rattle.log.specs.Reading.{whole, recordsIn}
+use Rattle.log.specs.Reading.{whole, heardsIn}
 use Rattle.report.specs.Report.{heading, entryLines, refusedLine, lastLines, replayed, reportOf}
 use Rattle.quote.specs.declared.Answer as quoted
 use Rattle.quote.specs.declared.Answer.the-variants as quoted-as
@@ -54,20 +53,20 @@ use Rattle.step.proofs.Doors.{step-sound}
 use Rattle.demands.specs.Numbers.{ofSetup, ofEvent, ofLog, ofOrder}
 
 -- An unsound gate is answered 19, and handed back.
-pub unsound-gate : (g : Gate) (o : Option Event) → soundOf g ≡ false
-    → stepped g o ≡ record { number = unsound; gate = g }
+pub unsound-gate : (g : Gate) (x : Heard) → soundOf g ≡ false
+    → stepped g x ≡ record { number = unsound; gate = g }
 unfolding stepped
-unsound-gate g o h = rw h
+unsound-gate g x h = rw h
 
 -- A refused event hands back the gate that it was given, sound or not.
-pub refused-event : (g : Gate) (o : Option Event) → (stepped g o .number ≡ accepted → ⊥) → stepped g o .gate ≡ g
-refused-event g o n =
+pub refused-event : (g : Gate) (x : Heard) → (stepped g x .number ≡ accepted → ⊥) → stepped g x .gate ≡ g
+refused-event g x n =
     by-test (soundOf g)
     (λ h.
-    let e = step-sound g o h in
-    let same = refused-same (setupOf (g .setup)) (stateOf g) o (λ q. n (ap (λ (t : Result). t .number) e ∙ q)) in
+    let e = step-sound g x h in
+    let same = refused-same (setupOf (g .setup)) (stateOf g) x (λ q. n (ap (λ (t : Result). t .number) e ∙ q)) in
     ap (λ (t : Result). t .gate) e ∙ ap (shown (g .setup)) same ∙ shown-back g (passed-laid g h))
-    (λ h. ap (λ (t : Result). t .gate) (unsound-gate g o h))
+    (λ h. ap (λ (t : Result). t .gate) (unsound-gate g x h))
 
 -- A refused setup has its number, and yields the empty gate ..
 pub refused-setup : (v : Setup) → (setupAnswer (setupOf v) ≡ accepted → ⊥)
@@ -76,8 +75,8 @@ unfolding made verdictOf freshGate
 refused-setup v n = (refl, rw (ne-eqb (setupAnswer (setupOf v)) accepted n))
 
 -- .. which answers every event 19 and stays as it is.
-pub empty-gate : (o : Option Event) → stepped emptyGate o ≡ record { number = unsound; gate = emptyGate }
-empty-gate o = unsound-gate emptyGate o empty-fails
+pub empty-gate : (x : Heard) → stepped emptyGate x ≡ record { number = unsound; gate = emptyGate }
+empty-gate x = unsound-gate emptyGate x empty-fails
 
 -- A refused order quotes 0, and its place is 0 in every answer but 30.
 pub refused-order : (o : Order) → (quote o .answer ≡ accepted → ⊥) → quote o .budget ≡ 0
@@ -98,46 +97,51 @@ refused-log l r e = rw e
 -- .. and one whose last record is cut by the lines of its whole records, then 23 and that record's offset.
 pub cut-log : (l : List ℕ) (start : ℕ) → openingOf l ≡ Records start
     → (start + recordSize * whole l start ≡ length l → ⊥)
-    → reportOf l ≡ heading (setupIn l .clusters) (setupIn l .clients) (setupIn l .cap)
-    ++ (entryLines 0 (entriesFrom (setupOf (setupIn l)) fresh (recordsIn l start))
+    → reportOf l ≡ heading (versionIn l) (setupIn l .clusters) (setupIn l .clients) (setupIn l .cap) (setupIn l .tidy)
+    ++ (entryLines 0 (entriesFrom (setupOf (setupIn l)) fresh (heardsIn l start))
     ++ refusedLine (record { number = logCut; offset = start + recordSize * whole l start }))
 unfolding reportOf replayed lastLines
 cut-log l start e n = rw (e, ne-eqb (start + recordSize * whole l start) (length l) n)
 
--- EVERY NUMBER IS ONE OF DOCUMENT 01'S
+-- EVERY NUMBER IS ONE OF THE DOCUMENTS'
 
-rules-number : (u : rules.Setup) (s : State) (o : Option Event) → has (answerOf u s o) ofEvent ≡ true
+rules-number : (u : rules.Setup) (s : State) (e : Event) → has (answer u s e) ofEvent ≡ true
 unfolding answer
-rules-number u s none = refl
-rules-number u s (some (invoke c)) =
+rules-number u s (invoke c) =
     by-test (leb (u .clients) c) (λ a. rw a) λ a.
     by-test (present u s c) (λ b. rw (a, b)) (λ b. rw (a, b))
-rules-number u s (some (run n)) =
+rules-number u s (run n) =
     by-test (eqb n 0) (λ a. rw a) λ a.
     by-test (isIdle (s .server)) (λ b. rw (a, b)) λ b.
-    by-test (ltb (u .cap) (s .units + n)) (λ d. rw (a, b, d)) λ d.
+    by-test (ltb (capOf u (s .server)) (s .units + n)) (λ d. rw (a, b, d)) λ d.
     by-test (overcharges u s n) (λ e. rw (a, b, d, e)) (λ e. rw (a, b, d, e))
-rules-number u s (some reply) = by-test (isIdle (s .server)) (λ a. rw a) (λ a. rw a)
-rules-number u s (some (abort c)) =
+rules-number u s reply = by-test (isServing (s .server)) (λ a. rw a) (λ a. rw a)
+rules-number u s (abort c) =
     by-test (leb (u .clients) c) (λ a. rw a) λ a.
     by-test (realTime u c) (λ b.
     by-test (waits u s c || isSpent (s .server) c) (λ d.
     by-test (isSpent (s .server) c) (λ e. rw (a, b, d, e)) (λ e. rw (a, b, d, e)))
     (λ d. rw (a, b, d)))
     (λ b. rw (a, b))
+rules-number u s ready = by-test (isTidying (s .server)) (λ a. rw a) (λ a. rw a)
 
--- A step answers 0 or 10 to 19, whatever gate and record it is handed,
-pub step-number : (g : Gate) (o : Option Event) → has (stepped g o .number) ofEvent ≡ true
+heard-number : (u : rules.Setup) (s : State) (x : Heard) → has (answerOf u s x) ofEvent ≡ true
+heard-number u s (known e) = rules-number u s e
+heard-number u s replyReady = rules-number u s reply
+heard-number u s unknown = refl
+
+-- A step answers 0, 10 to 19 or 26, whatever gate and record it is handed,
+pub step-number : (g : Gate) (x : Heard) → has (stepped g x .number) ofEvent ≡ true
 unfolding stepped
-step-number g o =
-    by-test (soundOf g) (λ h. rw h (rules-number (setupOf (g .setup)) (stateOf g) o)) (λ h. rw h)
+step-number g x =
+    by-test (soundOf g) (λ h. rw h (heard-number (setupOf (g .setup)) (stateOf g) x)) (λ h. rw h)
 
 -- and so does every line of a report;
-pub report-numbers : (u : rules.Setup) (s : State) (rs : List Record)
-    → AllTrue (map (λ (e : Entry). has (e .answer) ofEvent) (entriesFrom u s rs))
+pub report-numbers : (u : rules.Setup) (s : State) (xs : List Heard)
+    → AllTrue (map (λ (e : Entry). has (e .answer) ofEvent) (entriesFrom u s xs))
 unfolding entriesFrom
 report-numbers u s [] = tt
-report-numbers u s (r ∷ rs) = (rules-number u s (eventOf r), report-numbers u (stepOf u s (eventOf r)) rs)
+report-numbers u s (x ∷ xs) = (heard-number u s x, report-numbers u (stepOf u s x) xs)
 
 -- a setup 0 to 5;
 pub setup-number : (v : Setup) → has (made v .told .number) ofSetup ≡ true
@@ -188,6 +192,7 @@ answer-number is.BestEffort = refl
 answer-number is.SpentAlready = refl
 answer-number is.Unknown = refl
 answer-number is.Unsound = refl
+answer-number is.NotTidying = refl
 
 -- of a setup's verdict,
 pub verdict-number : (v : Verdict) → has (verdict.told v .number) ofSetup ≡ true

@@ -10,16 +10,20 @@ use lib.ListN.{getD}
 use Rattle.rules.specs.Limits.{maxClients}
 use Rattle.rules.specs.Refusals.{accepted, unsound}
 use Rattle.rules.specs.Setup as rules
-use Rattle.rules.specs.Setup.{Accepted, realTime, service}
+use Rattle.rules.specs.Setup.{Accepted, realTime, service, span}
+use Rattle.rules.specs.State.{State, fresh}
 use Rattle.rules.specs.Sound.{Sound}
-use Rattle.rules.specs.Records.{Record, eventOf, answerOf}
-use Rattle.rules.specs.History.{after, owed, owedInAll, calls, struck, struckInRoom}
-use Rattle.rules.specs.Demands.{worst, worstUnstruck}
+use Rattle.rules.specs.Events.{Event}
+use Rattle.rules.specs.Records.{Heard, answerOf, stepOf}
+use Rattle.rules.specs.History.{after, said, owed, owedInAll, calls, struck, struckInRoom}
+use Rattle.rules.specs.Demands.{worst, worstUnstruck, reach, reachUnstruck}
 use Rattle.rules.specs.Quote.{Order, quote}
 use Rattle.rules.specs.Budgets.{Use, Keeps, chargedFor}
 use Rattle.rules.proofs.Setups.{allowed}
 use Rattle.rules.proofs.Theorems.{sound-stays, stored-is-sum, bounded, bounded-unstruck-in-room, bounded-unstruck}
-use Rattle.rules.proofs.Theorems.{nineteen-never, bounded-in-all, within-budget}
+use Rattle.rules.proofs.Theorems.{bounded-as-asked, bounded-unstruck-as-asked, nineteen-never, bounded-in-all}
+use Rattle.rules.proofs.Theorems.{within-budget}
+use Rattle.rules.proofs.Said.{said-step}
 use Rattle.gate.specs.declared.Setup.{Setup}
 use Rattle.gate.specs.declared.Gate.{Gate}
 use Rattle.gate.specs.Shown.{setupOf, shown}
@@ -36,66 +40,79 @@ module _ (v : Setup) (a : Accepted (setupOf v)) where
   abbrev pub u : rules.Setup
   u = setupOf (trimmedIn v)
 
-  sound-after : (h : List Record) → Sound u (after u h)
-  sound-after [] = fresh-sound v a
-  sound-after (r ∷ h) = sound-stays u (after u h) (eventOf r) (sound-after h)
+  -- the state that the rules come to by what was heard, the latest first
+  abbrev pub now : List Heard → State
+  now h = after u (said u h)
 
-  -- After any records the gate shows the state that the rules come to ..
-  pub shows-after : (h : List Record) → gateAfter (made v .gate) h ≡ shown (trimmedIn v) (after u h)
+  more : (x : Heard) (h : List Heard) → now (x ∷ h) ≡ stepOf u (now h) x
+  more x h = said-step u fresh (said u h) x
+
+  sound-after : (h : List Heard) → Sound u (now h)
+  sound-after [] = fresh-sound v a
+  sound-after (x ∷ h) = rw (more x h) (sound-stays u (now h) x (sound-after h))
+
+  -- Whatever was heard, the gate shows the state that the rules come to ..
+  pub shows-after : (h : List Heard) → gateAfter (made v .gate) h ≡ shown (trimmedIn v) (now h)
   shows-after [] = made-shown v (a .no-refusal)
-  shows-after (r ∷ h) =
-      ap (λ (g : Gate). stepped g (eventOf r) .gate) (shows-after h)
-      ∙ ap (λ (t : Result). t .gate) (step-shown (trimmedIn v) (after u h) (eventOf r) (sound-after h))
+  shows-after (x ∷ h) =
+      ap (λ (g : Gate). stepped g x .gate) (shows-after h)
+      ∙ ap (λ (t : Result). t .gate) (step-shown (trimmedIn v) (now h) x (sound-after h))
+      ∙ ap (shown (trimmedIn v)) (sym (more x h))
 
   -- .. and the next answer is the rules' own.
-  pub answers-after : (h : List Record) (r : Record)
-      → answerAfter (made v .gate) h r ≡ answerOf u (after u h) (eventOf r)
-  answers-after h r =
-      ap (λ (g : Gate). stepped g (eventOf r) .number) (shows-after h)
-      ∙ ap (λ (t : Result). t .number) (step-shown (trimmedIn v) (after u h) (eventOf r) (sound-after h))
+  pub answers-after : (h : List Heard) (x : Heard) → answerAfter (made v .gate) h x ≡ answerOf u (now h) x
+  answers-after h x =
+      ap (λ (g : Gate). stepped g x .number) (shows-after h)
+      ∙ ap (λ (t : Result). t .number) (step-shown (trimmedIn v) (now h) x (sound-after h))
 
   -- 19 is never given.
-  pub never-nineteen : (h : List Record) (r : Record) → answerAfter (made v .gate) h r ≡ unsound → ⊥
-  never-nineteen h r e = nineteen-never u (sound-after [] .setup) h r (sym (answers-after h r) ∙ e)
+  pub never-nineteen : (h : List Heard) (x : Heard) → answerAfter (made v .gate) h x ≡ unsound → ⊥
+  never-nineteen h x e = nineteen-never u (sound-after [] .setup) (said u h) x (sym (answers-after h x) ∙ e)
 
-  -- The charge that the gate stores is the sum over the history.
-  pub stored : (h : List Record) (c : ℕ) → c < maxClients → chargeAfter (made v .gate) h c ≡ owed u c h
+  -- The charge that the gate stores is the sum over the history of events.
+  pub stored : (h : List Heard) (c : ℕ) → c < maxClients → chargeAfter (made v .gate) h c ≡ owed u c (said u h)
   unfolding shown
   stored h c b =
       ap (λ (g : Gate). getD (g .charges) c 0) (shows-after h)
-      ∙ table-at maxClients (after u h .charge) c 0 b
-      ∙ stored-is-sum u c h
+      ∙ table-at maxClients (now h .charge) c 0 b
+      ∙ stored-is-sum u c (said u h)
 
   -- THE DEMAND
 
-  -- What a client's charge is after some records: the sum over the history, at most (2 + 2mK)L, and at most (1 + 2mK)L
-  -- where no accepted abort hit its own cluster's request in service while it was in the waiting room, and so where
-  -- none did during its wait.
-  pub record Within (h : List Record) (c : ℕ) : Type 0 where
-    pub is-sum : chargeAfter (made v .gate) h c ≡ owed u c h
-    pub at-most : chargeAfter (made v .gate) h c ≤ worst (u .size (u .cluster c)) (u .clusters) (service u)
-    pub unless-in-room : struckInRoom u c h ≡ false
-        → chargeAfter (made v .gate) h c ≤ worstUnstruck (u .size (u .cluster c)) (u .clusters) (service u)
-    pub unless-struck : struck u c h ≡ false
-        → chargeAfter (made v .gate) h c ≤ worstUnstruck (u .size (u .cluster c)) (u .clusters) (service u)
+  -- What a client's charge is after some history, with S for L + W: the sum over the events, at most 2L + 2mKS, and
+  -- at most L + 2mKS where no accepted abort hit its own cluster's request in service while it was in the waiting
+  -- room, and so where none did during its wait. The figures that are asked for, (2 + 2mK)S and (1 + 2mK)S, are no
+  -- smaller.
+  pub record Within (h : List Heard) (c : ℕ) : Type 0 where
+    pub is-sum : chargeAfter (made v .gate) h c ≡ owed u c (said u h)
+    pub at-most : chargeAfter (made v .gate) h c ≤ reach (u .size (u .cluster c)) (u .clusters) (service u) (span u)
+    pub unless-in-room : struckInRoom u c (said u h) ≡ false
+        → chargeAfter (made v .gate) h c ≤ reachUnstruck (u .size (u .cluster c)) (u .clusters) (service u) (span u)
+    pub unless-struck : struck u c (said u h) ≡ false
+        → chargeAfter (made v .gate) h c ≤ reachUnstruck (u .size (u .cluster c)) (u .clusters) (service u) (span u)
+    pub as-asked : chargeAfter (made v .gate) h c ≤ worst (u .size (u .cluster c)) (u .clusters) (span u)
+    pub unless-struck-as-asked : struck u c (said u h) ≡ false
+        → chargeAfter (made v .gate) h c ≤ worstUnstruck (u .size (u .cluster c)) (u .clusters) (span u)
 
-  -- After any records, refused ones among them, this holds of every real-time client's charge.
-  pub charge-within : (h : List Record) (c : ℕ) → c < u .clients → realTime u c ≡ true → Within h c
+  -- After any events and any records, refused ones among them, this holds of every real-time client's charge.
+  pub charge-within : (h : List Heard) (c : ℕ) → c < u .clients → realTime u c ≡ true → Within h c
   charge-within h c b r =
       let ok = sound-after [] .setup in
       let e = stored h c (omega (arith, allowed u ok .few-clients)) in
       record {
         is-sum = e;
-        at-most = omega (arith, e, bounded u ok h c r);
-        unless-in-room = λ n. omega (arith, e, bounded-unstruck-in-room u ok h c r n);
-        unless-struck = λ n. omega (arith, e, bounded-unstruck u ok h c r n);
+        at-most = omega (arith, e, bounded u ok (said u h) c r);
+        unless-in-room = λ n. omega (arith, e, bounded-unstruck-in-room u ok (said u h) c r n);
+        unless-struck = λ n. omega (arith, e, bounded-unstruck u ok (said u h) c r n);
+        as-asked = omega (arith, e, bounded-as-asked u ok (said u h) c r);
+        unless-struck-as-asked = λ n. omega (arith, e, bounded-unstruck-as-asked u ok (said u h) c r n);
       }
 
   -- WHAT A QUOTE IS FOR
 
-  -- Over all of its waits a client is charged at most (2 + 2mK)L for each accepted invoke ..
-  pub charged-in-all : (h : List Record) (c : ℕ) → realTime u c ≡ true
-      → owedInAll u c h ≤ calls u c h * worst (u .size (u .cluster c)) (u .clusters) (service u)
+  -- Over all of its waits a client is charged at most (2 + 2mK)S for each accepted invoke ..
+  pub charged-in-all : (h : List Event) (c : ℕ) → realTime u c ≡ true
+      → owedInAll u c h ≤ calls u c h * worst (u .size (u .cluster c)) (u .clusters) (span u)
   charged-in-all h c r = bounded-in-all u (sound-after [] .setup) h c r
 
 -- .. so where an accepted order's N are not passed, e and all that was charged are within its budget, and that is

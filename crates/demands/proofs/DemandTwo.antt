@@ -3,10 +3,8 @@
 -- Assumes nothing.
 use mathlib.Core.Path.{_≡_, sym, ap, ap₂, _∙_}
 use mathlib.Core.Bool.{true}
-use mathlib.Core.Option.{Option}
 use Rattle.rules.specs.Refusals.{accepted}
-use Rattle.rules.specs.Events.{Event}
-use Rattle.rules.specs.Records.{answerOf, stepOf}
+use Rattle.rules.specs.Records.{Heard, answerOf, stepOf}
 use Rattle.rules.specs.Quote.{Order, budgetOf, acceptedQuote, quote, Fits}
 use Rattle.rules.proofs.Theorems.{accepted-exactly}
 use Rattle.gate.specs.declared.Gate.{Gate}
@@ -27,30 +25,30 @@ use Rattle.demands.proofs.Steps.{step-shown}
 pub test-exact : (g : Gate) → (soundOf g ≡ true → ShowsSound g) × (ShowsSound g → soundOf g ≡ true)
 test-exact = sound-exact
 
-module _ (g : Gate) (s : ShowsSound g) (o : Option Event) where
-  ruled : stepped g o
+module _ (g : Gate) (s : ShowsSound g) (x : Heard) where
+  ruled : stepped g x
       ≡ record {
-        number = answerOf (setupOf (g .setup)) (s .state) o;
-        gate = shown (g .setup) (stepOf (setupOf (g .setup)) (s .state) o);
+        number = answerOf (setupOf (g .setup)) (s .state) x;
+        gate = shown (g .setup) (stepOf (setupOf (g .setup)) (s .state) x);
       }
-  ruled = ap (λ (x : Gate). stepped x o) (s .form) ∙ step-shown (g .setup) (s .state) o (s .sound)
+  ruled = ap (λ (y : Gate). stepped y x) (s .form) ∙ step-shown (g .setup) (s .state) x (s .sound)
 
   -- The gate after it is the shown form of the state that the rules give ..
-  pub leaves : stepped g o .gate ≡ shown (g .setup) (stepOf (setupOf (g .setup)) (s .state) o)
+  pub leaves : stepped g x .gate ≡ shown (g .setup) (stepOf (setupOf (g .setup)) (s .state) x)
   leaves = ap (λ (t : Result). t .gate) ruled
 
   -- .. and the number is the rules' own, so that it is refused exactly when they say so.
-  pub answers : stepped g o .number ≡ answerOf (setupOf (g .setup)) (s .state) o
+  pub answers : stepped g x .number ≡ answerOf (setupOf (g .setup)) (s .state) x
   answers = ap (λ (t : Result). t .number) ruled
 
 -- No second answer fits the promise of a step, whatever the gate.
-pub one-answer-fits : (g : Gate) (o : Option Event) (r t : Answered)
-    → toldIn r ≡ stepped g o → toldIn t ≡ stepped g o → r ≡ t
-one-answer-fits g o r t e q =
+pub one-answer-fits : (g : Gate) (x : Heard) (r t : Answered)
+    → toldIn r ≡ stepped g x → toldIn t ≡ stepped g x → r ≡ t
+one-answer-fits g x r t e q =
     let same = e ∙ sym q in
     ap₂ (λ (a : Answer) (h : Gate). record { answer = a; gate = h })
-    (one-answer (r .answer) (t .answer) (ap (λ (x : Result). x .number) same))
-    (ap (λ (x : Result). x .gate) same)
+    (one-answer (r .answer) (t .answer) (ap (λ (y : Result). y .number) same))
+    (ap (λ (y : Result). y .gate) same)
 
 -- THE QUOTE
 

@@ -12,11 +12,11 @@ use Rattle.rules.specs.Setup.{Accepted, realTime, setupAnswer}
 use Rattle.rules.specs.State.{fresh}
 use Rattle.rules.specs.Rank.{outranks}
 use Rattle.rules.specs.Queues.{refill, queue, pick}
-use Rattle.rules.specs.Events.{invoked, ran, replied, aborted}
+use Rattle.rules.specs.Events.{invoked, ran, replied, aborted, readied}
 use Rattle.rules.specs.Step.{answer, next, step}
-use Rattle.rules.specs.Records.{eventOf}
+use Rattle.rules.specs.Records.{Record, Heard, eventOf, heardOf}
 use Rattle.rules.specs.Replay.{entriesFrom}
-use Rattle.rules.specs.History.{struck}
+use Rattle.rules.specs.History.{said, struck}
 use Rattle.rules.specs.Demands.{worst, worstUnstruck}
 use Rattle.rules.proofs.Cases.{logSetup, logRecords, quietRecords}
 use Rattle.gate.specs.declared.Setup.{Setup}
@@ -29,7 +29,7 @@ use Rattle.log.specs.Opening.{headOf, tablesOf, openingOf}
 use Rattle.layout.specs.Layout.{recordSize}
 use Rattle.layout.specs.Log.{Sized, setupBytes}
 use Rattle.log.specs.Reading.{whole}
-use Rattle.writing.specs.Writing.{itemPut, setupPut}
+use Rattle.writing.specs.Writing.{itemPut, formPut}
 use Rattle.rewriting.specs.Sequence.{onwards, logPut}
 use Rattle.demands.specs.Histories.{chargeAfter, NoneUnknown}
 use Rattle.demands.proofs.DemandThree.{u, stored}
@@ -64,6 +64,7 @@ logHeld = record {
   clusters = logSetup .clusters;
   clients = logSetup .clients;
   cap = logSetup .cap;
+  tidy = logSetup .tidy;
   sizes = table 8 (logSetup .size);
   kinds = table 64 (logSetup .kind);
   homes = table 64 (logSetup .cluster);
@@ -72,7 +73,7 @@ logHeld = record {
 
 pub bytes-accepted : Accepted (setupOf logHeld)
 unfolding setupAnswer table
-bytes-accepted = record { no-refusal = refl; sixteen-bits = omega arith }
+bytes-accepted = record { no-refusal = refl; sixteen-bits = omega arith; tidy-bits = omega arith }
 
 pub client-real : realTime (u logHeld bytes-accepted) 1 ≡ true
 unfolding table trimmedIn zeroPast
@@ -82,32 +83,41 @@ pub client-known : 1 < u logHeld bytes-accepted .clients
 unfolding trimmedIn
 client-known = omega arith
 
+-- what the records of a log of version 1 say, the latest first
+abbrev heards : List Record → List Heard
+heards rs = map (heardOf 1) (reverse rs)
+
 -- m = 1, K = 1, L = 10: the gate has charged client 1 with (2 + 2)10 after the log ..
-pub reached : chargeAfter (made logHeld .gate) (reverse logRecords) 1 ≡ worst 1 1 10
-unfolding table trimmedIn zeroPast eventOf answer next step outranks refill queue pick invoked ran replied aborted
-reached = stored logHeld bytes-accepted (reverse logRecords) 1 (omega arith) ∙ refl
+pub reached : chargeAfter (made logHeld .gate) (heards logRecords) 1 ≡ worst 1 1 10
+unfolding table trimmedIn zeroPast eventOf answer next step
+    outranks refill queue pick invoked ran replied aborted readied
+reached = stored logHeld bytes-accepted (heards logRecords) 1 (omega arith) ∙ refl
 
 -- .. and with (1 + 2)10 where nobody is aborted.
-pub not-struck : struck (u logHeld bytes-accepted) 1 (reverse quietRecords) ≡ false
-unfolding table trimmedIn zeroPast eventOf answer next step outranks refill queue pick invoked ran replied aborted
+pub not-struck :
+    struck (u logHeld bytes-accepted) 1 (said (u logHeld bytes-accepted) (heards quietRecords)) ≡ false
+unfolding table trimmedIn zeroPast eventOf answer next step
+    outranks refill queue pick invoked ran replied aborted readied
 not-struck = refl
 
-pub reached-unstruck : chargeAfter (made logHeld .gate) (reverse quietRecords) 1 ≡ worstUnstruck 1 1 10
-unfolding table trimmedIn zeroPast eventOf answer next step outranks refill queue pick invoked ran replied aborted
-reached-unstruck = stored logHeld bytes-accepted (reverse quietRecords) 1 (omega arith) ∙ refl
+pub reached-unstruck : chargeAfter (made logHeld .gate) (heards quietRecords) 1 ≡ worstUnstruck 1 1 10
+unfolding table trimmedIn zeroPast eventOf answer next step
+    outranks refill queue pick invoked ran replied aborted readied
+reached-unstruck = stored logHeld bytes-accepted (heards quietRecords) 1 (omega arith) ∙ refl
 
 -- THE ROUND TRIP: THE SAME LOG
 
 -- its tables have their sizes, it is written into 65 bytes, each record of it, and none is answered 18
 pub log-sized : Sized logHeld
 unfolding table
-log-sized = record { sizes = refl; kinds = refl; homes = refl; priorities = refl; cap = omega arith }
+log-sized =
+    record { sizes = refl; kinds = refl; homes = refl; priorities = refl; cap = omega arith; tidy = omega arith }
 
-pub log-written : logPut logHeld (map eventOf logRecords) (replicate 65 0) .told .number ≡ accepted
-unfolding logPut onwards setupPut itemPut setupBytes verdictOf setupAnswer table eventOf
+pub log-written : logPut 1 logHeld logRecords (replicate 65 0) .told .number ≡ accepted
+unfolding logPut onwards formPut itemPut setupBytes verdictOf setupAnswer table eventOf
 log-written = refl
 
-pub log-known : NoneUnknown (setupOf logHeld) fresh logRecords
-unfolding entriesFrom table eventOf answer next step outranks refill queue pick invoked ran replied aborted
+pub log-known : NoneUnknown (setupOf logHeld) fresh (map (heardOf 1) logRecords)
+unfolding entriesFrom table eventOf answer next step outranks refill queue pick invoked ran replied aborted readied
 log-known =
     (refl, (refl, (refl, (refl, (refl, (refl, (refl, (refl, (refl, (refl, (refl, (refl, (refl, tt)))))))))))))

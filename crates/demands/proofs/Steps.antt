@@ -1,11 +1,9 @@
 -- A step of a gate that shows a sound state.
 -- Assumes nothing.
 use mathlib.Core.Path.{_≡_, refl, _∙_}
-use mathlib.Core.Option.{Option}
 use Rattle.rules.specs.State.{State}
 use Rattle.rules.specs.Sound.{Sound}
-use Rattle.rules.specs.Events.{Event}
-use Rattle.rules.specs.Records.{answerOf, stepOf}
+use Rattle.rules.specs.Records.{Heard, answerOf, stepOf}
 use Rattle.gate.specs.declared.Setup.{Setup}
 use Rattle.gate.specs.Shown.{setupOf, stateOf, shown}
 use Rattle.parts.proofs.Reading.{shown-setup}
@@ -15,14 +13,14 @@ use Rattle.step.specs.Stepped.{Result, stepped}
 use Rattle.step.proofs.Doors.{step-sound}
 
 -- what the rules give of the shown state
-ruled-shown : (w v : Setup) (t s : State) (o : Option Event) → w ≡ v → t ≡ s
+ruled-shown : (w v : Setup) (t s : State) (x : Heard) → w ≡ v → t ≡ s
     → _≡_ {A = Result}
-    (record { number = answerOf (setupOf w) t o; gate = shown w (stepOf (setupOf w) t o) })
-    (record { number = answerOf (setupOf v) s o; gate = shown v (stepOf (setupOf v) s o) })
-ruled-shown w v t s o a b = rw (a, b)
+    (record { number = answerOf (setupOf w) t x; gate = shown w (stepOf (setupOf w) t x) })
+    (record { number = answerOf (setupOf v) s x; gate = shown v (stepOf (setupOf v) s x) })
+ruled-shown w v t s x a b = rw (a, b)
 
-pub step-shown : (v : Setup) (s : State) (o : Option Event) → Sound (setupOf v) s
-    → stepped (shown v s) o ≡ record { number = answerOf (setupOf v) s o; gate = shown v (stepOf (setupOf v) s o) }
-step-shown v s o h =
-    step-sound (shown v s) o (shown-passes v s h)
-    ∙ ruled-shown (shown v s .setup) v (stateOf (shown v s)) s o (shown-setup v s (shown v s) refl) (sound-back v s h)
+pub step-shown : (v : Setup) (s : State) (x : Heard) → Sound (setupOf v) s
+    → stepped (shown v s) x ≡ record { number = answerOf (setupOf v) s x; gate = shown v (stepOf (setupOf v) s x) }
+step-shown v s x h =
+    step-sound (shown v s) x (shown-passes v s h)
+    ∙ ruled-shown (shown v s .setup) v (stateOf (shown v s)) s x (shown-setup v s (shown v s) refl) (sound-back v s h)

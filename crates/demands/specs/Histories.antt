@@ -1,5 +1,5 @@
--- A gate after a history of raw records, refused ones among them, each by the promise of the public step, the latest
--- record first; and what the records of a log are not answered.
+-- A gate after a history of what it heard, events and records of any version, refused ones among them, each by the
+-- promise of the public step, the latest first; and what the records of a log are not answered.
 -- Assumes nothing.
 use Prim.Native.Nat.{ℕ}
 use mathlib.Core.Bool.{not}
@@ -9,24 +9,24 @@ use lib.ListN.{getD}
 use Rattle.rules.specs.Refusals.{unknownRecord}
 use Rattle.rules.specs.Setup.{Setup}
 use Rattle.rules.specs.State.{State}
-use Rattle.rules.specs.Records.{Record, eventOf}
+use Rattle.rules.specs.Records.{Heard}
 use Rattle.rules.specs.Replay.{Entry, entriesFrom}
 use Rattle.rules.specs.Quote.{AllTrue}
 use Rattle.gate.specs.declared.Gate.{Gate}
 use Rattle.step.specs.Stepped.{stepped}
 
-abbrev pub gateAfter : Gate → List Record → Gate
+abbrev pub gateAfter : Gate → List Heard → Gate
 gateAfter g [] = g
-gateAfter g (r ∷ h) = stepped (gateAfter g h) (eventOf r) .gate
+gateAfter g (x ∷ h) = stepped (gateAfter g h) x .gate
 
--- what the next record is answered
-abbrev pub answerAfter : Gate → List Record → Record → ℕ
-answerAfter g h r = stepped (gateAfter g h) (eventOf r) .number
+-- what the next is answered
+abbrev pub answerAfter : Gate → List Heard → Heard → ℕ
+answerAfter g h x = stepped (gateAfter g h) x .number
 
 -- the charge that the gate stores for a client
-abbrev pub chargeAfter : Gate → List Record → ℕ → ℕ
+abbrev pub chargeAfter : Gate → List Heard → ℕ → ℕ
 chargeAfter g h c = getD (gateAfter g h .charges) c 0
 
 -- No record that is replayed, from a state on, is answered 18.
-abbrev pub NoneUnknown : Setup → State → List Record → Type 0
-NoneUnknown u s rs = AllTrue (map (λ (e : Entry). not (eqb (e .answer) unknownRecord)) (entriesFrom u s rs))
+abbrev pub NoneUnknown : Setup → State → List Heard → Type 0
+NoneUnknown u s xs = AllTrue (map (λ (e : Entry). not (eqb (e .answer) unknownRecord)) (entriesFrom u s xs))

@@ -4,31 +4,31 @@ use Prim.Native.Nat.{ℕ}
 use mathlib.Core.List.{List, [], _∷_}
 use Rattle.rules.specs.Refusals.{accepted, badClusters, noCap, manyClients, badSize, badRow, noClient}
 use Rattle.rules.specs.Refusals.{waitsAlready, serverIdle, runOfNone, runPastCap, notWaiting, bestEffort}
-use Rattle.rules.specs.Refusals.{spentAlready, unknownRecord, unsound, logShort, badMark, badVersion, logCut}
-use Rattle.rules.specs.Refusals.{logLong, noRoom, fieldOut, overPeriod, badLines}
+use Rattle.rules.specs.Refusals.{spentAlready, unknownRecord, unsound, notTidying, logShort, badMark}
+use Rattle.rules.specs.Refusals.{badVersion, logCut, logLong, noRoom, fieldOut, overPeriod, badLines}
 
 -- 0, and 1 to 5
 abbrev pub ofSetup : List ℕ
 ofSetup = accepted ∷ badClusters ∷ noCap ∷ manyClients ∷ badSize ∷ badRow ∷ []
 
--- 0, and 10 to 19
+-- 0, 10 to 19, and 26
 abbrev pub ofEvent : List ℕ
 ofEvent =
     accepted ∷ noClient ∷ waitsAlready ∷ serverIdle ∷ runOfNone ∷ runPastCap ∷ notWaiting ∷ bestEffort ∷ spentAlready ∷
-    unknownRecord ∷ unsound ∷ []
+    unknownRecord ∷ unsound ∷ notTidying ∷ []
 
 -- 20 to 24, and a setup's own
 abbrev pub ofLog : List ℕ
 ofLog =
     logShort ∷ badMark ∷ badVersion ∷ logCut ∷ logLong ∷ badClusters ∷ noCap ∷ manyClients ∷ badSize ∷ badRow ∷ []
 
--- the writer's, for a setup: its own, and 25
+-- the writer's, for a setup: its own, 22 and 25
 abbrev pub ofWrittenSetup : List ℕ
-ofWrittenSetup = noRoom ∷ ofSetup
+ofWrittenSetup = badVersion ∷ noRoom ∷ ofSetup
 
--- for a record: 0, 18 and 25
+-- for a record: 0, 18, 22 and 25
 abbrev pub ofWrittenRecord : List ℕ
-ofWrittenRecord = accepted ∷ unknownRecord ∷ noRoom ∷ []
+ofWrittenRecord = accepted ∷ unknownRecord ∷ badVersion ∷ noRoom ∷ []
 
 -- 0, and 30 to 32
 abbrev pub ofOrder : List ℕ
