@@ -62,7 +62,7 @@ bestEffort = 16
 abbrev pub spentAlready : ℕ
 spentAlready = 17
 
--- unknown event code, or a reply or wait whose argument isn't 0
+-- unknown event code, or a reply or ready whose argument isn't 0
 abbrev pub unknownRecord : ℕ
 unknownRecord = 18
 
@@ -70,7 +70,7 @@ unknownRecord = 18
 abbrev pub unsound : ℕ
 unsound = 19
 
--- wait while the server isn't tidying
+-- ready while the server isn't tidying
 abbrev pub notTidying : ℕ
 notTidying = 26
 
