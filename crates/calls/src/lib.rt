@@ -122,8 +122,8 @@ pub fn reply_ready<'a>(
             queues: q,
         };
     }
-    let n = leaving::replied(q, homes, sizes, priorities);
-    let next = moves::picked(n);
+    let left = leaving::replied(q, homes, sizes, priorities);
+    let next = moves::picked(left);
     Outcome {
         answer: Answer::Accepted,
         queues: next,

@@ -6,6 +6,7 @@ use answers::Outcome;
 use gate::Event;
 use gate::Gate;
 use gate::Heard;
+use gate::NEWEST_VERSION;
 use gate::Setup;
 use gate::heard_in;
 use parts::Queues;
@@ -160,12 +161,9 @@ pub fn step(g: Gate, e: Event) -> Answered
     checked_record(g, Heard::Known(e))
 }
 
-// The newest version of a log, whose records say one event each.
-const NEWEST: u16 = 2;
-
 // A raw record, code and argument, as the newest logs have it, on any gate: 19 before 18.
 pub fn step_record(g: Gate, code: u8, argument: u16) -> Answered
     ensures { λ r. ⌜ toldIn r ≡ stepped g (heardOf newest (record { code = code; argument = argument })) ⌝ }
 {
-    checked_record(g, heard_in(NEWEST, code, argument))
+    checked_record(g, heard_in(NEWEST_VERSION, code, argument))
 }
