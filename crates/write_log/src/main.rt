@@ -143,7 +143,7 @@ fn write_records(
 {
     let mut s = first;
     while s.next < log.len() {
-        let Next::Recorded(code, argument) = record_at(log, s.next) else {
+        let Next::Recorded(code, argument, _) = record_at(log, version, s.next) else {
             break;
         };
         s = write_next(version, code, argument, s, buffer, out);
