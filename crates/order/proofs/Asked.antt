@@ -5,16 +5,20 @@ use native.Mathlib.Omega.{arith}
 use mathlib.Core.Path.{_≡_, _∙_}
 use mathlib.Core.List.{List}
 use lib.IntN.{ℤ}
-use lib.ListN.{length, getD, drop}
+use lib.ListN.{length, getD, drop, length-map}
 use borrow.Author.Tests.{lt-ltb, le-ltb}
 use Rattle.rules.specs.Refusals.{badLines}
 use Rattle.rules.specs.Quote.{orderOf, refusedQuote, quote}
 use Rattle.quote.proofs.Answers.{many-lines}
-use Rattle.numerals.specs.Numbers.{outOfRange}
-use Rattle.order.specs.Orders.{fields, values, everyThird, orderFrom, maxBytes, asked}
+use Rattle.fields.specs.Fields.{fields}
+use Rattle.numerals.specs.Numbers.{outOfRange, fieldOf}
+use Rattle.order.specs.Orders.{comma, values, everyThird, orderFrom, maxBytes, asked}
 use Rattle.order.specs.Steps.{maxFields}
-use Rattle.order.proofs.Fields.{length-values}
 use Rattle.order.proofs.Columns.{length-column}
+
+pub length-values : (s : List ℕ) → length (values s) ≡ length (fields comma s)
+unfolding values
+length-values s = length-map (fields comma s) fieldOf
 
 module _ (s : List ℕ) where
   pub too-long : maxBytes < length s → asked s ≡ refusedQuote badLines 0
@@ -26,7 +30,7 @@ module _ (s : List ℕ) where
     unfolding asked
     not-long = rw (le-ltb maxBytes (length s) short)
 
-    pub many-fields : maxFields < length (fields s) → asked s ≡ refusedQuote badLines 0
+    pub many-fields : maxFields < length (fields comma s) → asked s ≡ refusedQuote badLines 0
     many-fields h =
         not-long ∙ many-lines (orderFrom (values s)) (omega (arith, length-column (values s) 4, length-values s))
 

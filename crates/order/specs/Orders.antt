@@ -3,11 +3,12 @@
 use Prim.Native.Nat.{ℕ}
 use mathlib.Core.Bool.{cond}
 use mathlib.Core.List.{List, [], _∷_, map}
-use lib.Dec.{eqb, ltb}
+use lib.Dec.{ltb}
 use lib.IntN.{ℤ}
 use lib.ListN.{length, getD, drop}
 use Rattle.rules.specs.Refusals.{badLines}
 use Rattle.rules.specs.Quote.{Order, Quote, refusedQuote, quote}
+use Rattle.fields.specs.Fields.{fields}
 use Rattle.numerals.specs.Numbers.{outOfRange, fieldOf}
 
 -- FIELDS
@@ -15,17 +16,9 @@ use Rattle.numerals.specs.Numbers.{outOfRange, fieldOf}
 abbrev pub comma : ℕ
 comma = 44
 
-abbrev pub withFirst : ℕ → List (List ℕ) → List (List ℕ)
-withFirst b [] = (b ∷ []) ∷ []
-withFirst b (f ∷ fs) = (b ∷ f) ∷ fs
-
 -- The fields are separated by commas. (An empty line has one, which is empty: that is answered as no field is.)
-abbrev pub fields : List ℕ → List (List ℕ)
-fields [] = [] ∷ []
-fields (b ∷ s) = cond (eqb b comma) ([] ∷ fields s) (withFirst b (fields s))
-
 unfoldable pub values : List ℕ → List ℤ
-values s = map fieldOf (fields s)
+values s = map fieldOf (fields comma s)
 
 -- ORDERS
 

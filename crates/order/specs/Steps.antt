@@ -1,23 +1,11 @@
 -- What the functions on the way to a line's quote answer.
 -- Assumes nothing.
-use Prim.Native.Nat.{ℕ, suc, _+_, _-_, _*_, _/_, _<_}
+use Prim.Native.Nat.{ℕ, _+_, _-_, _*_, _/_, _<_}
 use mathlib.Core.Path.{_≡_}
-use mathlib.Core.Bool.{cond}
-use mathlib.Core.List.{List, [], _∷_}
-use lib.Dec.{eqb}
+use mathlib.Core.List.{List}
 use lib.IntN.{ℤ, pos}
-use lib.ListN.{length, getD}
+use lib.ListN.{getD}
 use Rattle.rules.specs.Limits.{maxLines}
-use Rattle.order.specs.Orders.{comma}
-
--- how long the first field is
-abbrev pub fieldLength : List ℕ → ℕ
-fieldLength [] = 0
-fieldLength (b ∷ s) = cond (eqb b comma) 0 (suc (fieldLength s))
-
--- the places hold the values of the fields, and what they held where there is no field
-abbrev pub Placed : List ℤ → List ℤ → List ℤ → Type 0
-Placed vs before after = (j : ℕ) → j < length before → getD after j (pos 0) ≡ getD vs j (getD before j (pos 0))
 
 -- the first four, and N, L and W of each line
 abbrev pub maxFields : ℕ

@@ -4,12 +4,14 @@ use numerals::field_value;
 use quote::Answer;
 use quote::MAX_LINES;
 ghost use mathlib.Core.Path.{_≡_};
-ghost use Prim.Native.Nat.{_+_, _≤_};
-ghost use lib.ListN.{length, drop, set};
+ghost use Prim.Native.Nat.{_≤_};
+ghost use lib.IntN.{pos};
+ghost use lib.ListN.{length, set};
 ghost use Rattle.rules.specs.Limits.{maxLines};
+ghost use Rattle.fields.specs.Fields.{fields, Placed};
 ghost use Rattle.quote.specs.Told.{told};
-ghost use Rattle.order.specs.Orders.{maxBytes, asked, fields, values};
-ghost use Rattle.order.specs.Steps.{fieldLength, maxFields, Placed, inColumn, Column};
+ghost use Rattle.order.specs.Orders.{comma, maxBytes, asked, values};
+ghost use Rattle.order.specs.Steps.{maxFields, inColumn, Column};
 
 const COMMA: u8 = 44;
 
@@ -51,13 +53,13 @@ pub fn ask(s: &[u8]) -> Answer
 // Reads the fields one by one, each to its place while there are places, and tells how many there are.
 fn read_fields(s: &[u8], v: &mut [i64]) -> usize
     requires { ⌜ length (now s) ≤ maxBytes ⌝ }
-    ensures { λ r. ⌜ r ≡ length (fields (now (s .entry))) ⌝ }
-    ensures { λ _. ⌜ Placed (values (now (s .entry))) (now (v .entry)) (now (v .exit)) ⌝ }
+    ensures { λ r. ⌜ r ≡ length (fields comma (now (s .entry))) ⌝ }
+    ensures { λ _. ⌜ Placed (pos 0) (values (now (s .entry))) (now (v .entry)) (now (v .exit)) ⌝ }
 {
     let mut n = 0;
     let mut a = 0;
     while a <= s.len() {
-        let e = end(s, a);
+        let e = fields::end(s, a, COMMA);
         place(v, n, field_value(&s[a..e]));
         n += 1;
         a = e + 1;
@@ -93,19 +95,4 @@ fn column(v: &[i64; MAX_FIELDS], from: usize) -> [i64; MAX_LINES]
         i += 1;
     }
     out
-}
-
-// Where the field ends that starts at a.
-fn end(s: &[u8], a: usize) -> usize
-    requires { ⌜ a ≤ length (now s) ⌝ }
-    ensures { λ r. ⌜ (r ≡ a + fieldLength (drop a (now (s .entry)))) × (a ≤ r) × (r ≤ length (now (s .entry))) ⌝ }
-{
-    let mut i = a;
-    while i < s.len() {
-        if s[i] == COMMA {
-            return i;
-        }
-        i += 1;
-    }
-    i
 }

@@ -10,13 +10,12 @@ use lib.ListN.{length, getD, take, drop}
 use lib.Seq.{length-take-le}
 use Rattle.rules.specs.Limits.{maxLines}
 use Rattle.quote.proofs.Ranges.{read-back}
+use Rattle.fields.proofs.Placed.{placed-at}
 use Rattle.numerals.specs.Numbers.{outOfRange}
 use Rattle.order.specs.Orders.{values, everyThird}
 use Rattle.order.specs.Steps.{maxFields, inColumn, Column}
-use Rattle.order.proofs.Fields.{length-values}
-use Rattle.order.proofs.Placed.{placed-at}
 use Rattle.order.proofs.Columns.{column-is}
-use Rattle.order.proofs.Asked.{too-long, not-long, many-fields, same-order}
+use Rattle.order.proofs.Asked.{length-values, too-long, not-long, many-fields, same-order}
 use Rattle.order.proofs.ask.Statement.{statement}
 use Rattle.order.proofs.ask.Tie as tie
 
@@ -64,7 +63,7 @@ counted f = f .read-fields .ensures .0 ∙ sym (length-values (text f))
 
 at : (f : tie.After-read-fields) (j : ℕ) → j < maxFields
     → getD (f .read-fields .last .1 .0) j (pos 0) ≡ getD (fs f) j outOfRange
-at f j h = placed-at (fs f) (f .read-fields .last .1 .0) maxFields (f .read-fields .ensures .1) j h
+at f j h = placed-at (pos 0) (fs f) (f .read-fields .last .1 .0) maxFields outOfRange (f .read-fields .ensures .1) j h
 
 -- the first places of a column are there, and they are the column of the order
 abbrev Read : ℕ → ℕ → List ℤ → List ℤ → Type 0

@@ -1,39 +1,37 @@
 -- `order::read_fields` meets its contract. The loop's invariant: n fields are placed, and the next starts at byte a.
 -- Assumes nothing.
-use Prim.Native.Nat.{ℕ, _+_, _-_, _≤_, _<_}
+use Prim.Native.Nat.{_+_, _-_, _≤_, _<_}
 use native.Mathlib.Omega.{arith}
-use mathlib.Core.Path.{_≡_, sym, ap, _∙_, subst}
-use mathlib.Core.List.{List}
-use lib.IntN.{ℤ}
-use lib.ListN.{length, take, drop, set}
+use mathlib.Core.Path.{sym, _∙_}
+use lib.IntN.{pos}
+use lib.ListN.{length}
 use mir.Facts.{toZ-ofZ}
-use Rattle.quote.proofs.Ranges.{read}
+use Rattle.fields.proofs.Placed.{Reading, starting, reading-on, all-placed}
 use Rattle.numerals.specs.Numbers.{fieldOf}
-use Rattle.order.specs.Steps.{fieldLength}
-use Rattle.order.proofs.Placed.{Reading, starting, reading-on, all-placed}
+use Rattle.order.specs.Orders.{comma, values}
 use Rattle.order.proofs.read_fields.Statement.{statement}
 use Rattle.order.proofs.read_fields.Tie as tie
 
 abbrev Inv-loop : tie.InvT-loop
-Inv-loop s v₀ n₀ a₀ v n a = Reading s v₀ v n a
+Inv-loop s v₀ n₀ a₀ v n a = Reading (pos 0) comma fieldOf s v₀ v n a
 
 abbrev μ-loop : tie.MeasureT-loop
 μ-loop s v₀ n₀ a₀ v n a = length s + 1 - a
 
 loop-holds : tie.Need-loop-holds Inv-loop μ-loop
-loop-holds c = starting (c .before .args .s .now) (c .before .args .v .now)
+loop-holds c = starting
 
 end-requires : tie.Need-end-requires Inv-loop μ-loop
 end-requires c κs = omega arith
 
 sub-field-value : tie.Need-sub-field-value Inv-loop μ-loop
-sub-field-value c = c .before .end .ensures .1
+sub-field-value c = c .before .end .ensures .behind
 
 part-field-value-start : tie.Need-part-field-value-start Inv-loop μ-loop
-part-field-value-start c = c .before .end .ensures .1
+part-field-value-start c = c .before .end .ensures .behind
 
 part-field-value-end : tie.Need-part-field-value-end Inv-loop μ-loop
-part-field-value-end c = c .before .end .ensures .2
+part-field-value-end c = c .before .end .ensures .within
 
 field-value-requires : tie.Need-field-value-requires Inv-loop μ-loop
 field-value-requires c κs = tt
@@ -54,30 +52,21 @@ loop-again : tie.Need-loop-again Inv-loop μ-loop
 loop-again c = let e = c .before .before .before .before .before in
     let l = e .before .before in
     let a = l .before .before .args in
-    let s = a .s .now in
-    let from = l .loop .a in
-    let there : from ≤ length s = omega arith in
+    let there : l .loop .a ≤ length (a .s .now) = omega arith in
     let value = c .before .before .field-value in
-    let long : e .end .result - from ≡ fieldLength (drop from s) = omega (arith, e .end .ensures .0) in
-    let is = toZ-ofZ (record { sfits = value .ok })
-    ∙ value .ensures
-    ∙ ap (λ (n : ℕ). fieldOf (take n (drop from s))) long in
-    let on = reading-on s (a .v .now) (l .loop .v) (l .loop .n) from (l .loop .inv) there
-    (omega (arith, e .end .ensures .0, e .end .ensures .2)) (read (value .result)) is in
-    let placed = set (l .loop .v) (l .loop .n) (read (value .result)) in
-    subst (λ (v : List ℤ). Reading s (a .v .now) v (l .loop .n + 1) (e .end .result + 1))
-    (sym (c .before .place .ensures))
-    (subst (λ (i : ℕ). Reading s (a .v .now) placed (l .loop .n + 1) (i + 1)) (sym (e .end .ensures .0)) on)
+    let is = toZ-ofZ (record { sfits = value .ok }) ∙ value .ensures in
+    reading-on (l .loop .inv) there (e .end .ensures) is (c .before .place .ensures)
 
 same-length : tie.Need-same-length Inv-loop μ-loop
 same-length c = c .before .loop .inv .long
 
 returns : tie.Need-returns Inv-loop μ-loop
+unfolding values
 returns c = let l = c .before in
     let a = l .before .before .args in
     let past : length (a .s .now) < l .loop .a = omega arith in (
       sym (l .loop .inv .done past),
-      all-placed (a .s .now) (a .v .now) (l .loop .v) (l .loop .n) (l .loop .a) (l .loop .inv) past,
+      all-placed (l .loop .inv) past,
     )
 
 pub read-fields-spec : {M : Type 1} → statement M
