@@ -1,3 +1,4 @@
--- Digits read one by one, and numbers that compute.
+-- Digits read one by one, plain numbers, and numbers that compute.
 pub mod Digits
+pub mod Plain
 pub mod Cases

@@ -1,8 +1,10 @@
-// A field's text as a number: decimal, with an optional minus sign.
+// A field's text as a number: decimal, with an optional minus sign; or a plain one, without sign or leading zeros.
 
 use text::wide;
 ghost use mathlib.Core.Path.{_≡_};
+ghost use Prim.Native.Nat.{min};
 ghost use Rattle.numerals.specs.Numbers.{fieldOf, digits};
+ghost use Rattle.numerals.specs.Plain.{zeroFirst, noPlain, plainOf};
 ghost use Rattle.numerals.specs.Steps.{sized, positive as Steps·positive, negative as Steps·negative};
 
 const MINUS: u8 = 45;
@@ -16,6 +18,8 @@ const MOST: u64 = 9223372036854775808;
 const TOO_LARGE: u64 = MOST + 1;
 // Above this, one more digit is past them too.
 const MOST_BEFORE: u64 = 922337203685477580;
+// 2^32: one more than the greatest plain number.
+pub const NO_PLAIN: u64 = 4294967296;
 
 // The number, or -1 where it is none or does not fit.
 pub fn field_value(f: &[u8]) -> i64
@@ -29,6 +33,16 @@ pub fn field_value(f: &[u8]) -> i64
     } else {
         positive(size(f))
     }
+}
+
+// The plain number, or NO_PLAIN where it is none or does not fit 32 bits.
+pub fn plain_value(f: &[u8]) -> u64
+    ensures { λ r. ⌜ r ≡ plainOf (now (f .entry)) ⌝ }
+{
+    if zero_first(f) {
+        return NO_PLAIN;
+    }
+    narrow(size(f))
 }
 
 // The number that digits spell, if they do and it is at most 2^63.
@@ -71,4 +85,19 @@ fn negative(n: u64) -> i64
     }
     let k = n - 1;
     if k < MOST { -1 - (k as i64) } else { -1 }
+}
+
+fn zero_first(f: &[u8]) -> bool
+    ensures { λ r. ⌜ r ≡ zeroFirst (now (f .entry)) ⌝ }
+{
+    if f.len() < 2 {
+        return false;
+    }
+    f[0] == ZERO
+}
+
+fn narrow(n: u64) -> u64
+    ensures { λ r. ⌜ r ≡ min n noPlain ⌝ }
+{
+    if n < NO_PLAIN { n } else { NO_PLAIN }
 }
