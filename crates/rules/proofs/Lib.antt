@@ -10,6 +10,7 @@ pub mod TellTidy
 pub mod TellLimits
 pub mod TellBounds
 pub mod TellBudgets
+pub mod TellTraces
 pub mod Worked
 pub mod Table
 -- tests, lists and counts
@@ -59,6 +60,7 @@ pub mod Replays
 pub mod Records
 pub mod Said
 pub mod FirstVersion
+pub mod Traces
 -- all waits of a client, and the quote
 pub mod Waits
 pub mod Budgets

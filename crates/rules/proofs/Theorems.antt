@@ -1,13 +1,15 @@
 -- What is proved of the rules, for every accepted setup and every history of events, refused ones among them.
 -- Assumes nothing.
-use Prim.Native.Nat.{ℕ, _+_, _≤_}
-use mathlib.Core.Path.{_≡_, refl, ap, sym, _∙_}
-use mathlib.Core.List.{List, [], _∷_, map, reverseAux}
+use Prim.Native.Nat.{ℕ, _+_, _≤_, _<_}
+use mathlib.Core.Path.{_≡_}
+use mathlib.Core.Bool.{true}
+use mathlib.Core.List.{List, [], _∷_, _++_, map, reverseAux}
 use native.Mathlib.Omega.{arith}
 use lib.IntN.{natAbs}
+use lib.ListN.{getD}
 use Rattle.rules.specs.Limits.{maxCharge}
 use Rattle.rules.specs.Refusals.{accepted, unsound}
-use Rattle.rules.specs.Setup.{Setup, Accepted, trimmed}
+use Rattle.rules.specs.Setup.{Setup, Accepted, realTime, trimmed}
 use Rattle.rules.specs.State.{State, fresh}
 use Rattle.rules.specs.Rank.{outranks}
 use Rattle.rules.specs.Sound.{Sound}
@@ -18,9 +20,10 @@ use Rattle.rules.specs.Records.{Record, Heard, known, replyReady, unknow
 use Rattle.rules.specs.Replay.{replayFrom}
 use Rattle.rules.specs.History.{after, said, owed, waiting}
 use Rattle.rules.specs.Demands.{Bounded, BoundedUnstruckInRoom, BoundedUnstruck}
-use Rattle.rules.specs.Demands.{BoundedAsAsked, BoundedUnstruckAsAsked}
+use Rattle.rules.specs.Demands.{BoundedAsAsked, BoundedUnstruckAsAsked, Within}
 use Rattle.rules.specs.Quote.{Order, budgetOf, acceptedQuote, quote, Fits}
 use Rattle.rules.specs.Budgets.{BoundedInAll, Use, Keeps, chargedFor}
+use Rattle.rules.specs.Traces.{Traced, Part, agrees, differs, traced, traceVerdict, Ruled, FirstDiffers}
 use Rattle.rules.proofs.Ranking.{by-priority}
 use Rattle.rules.proofs.Setups.{trimmed-is, trimmed-accepted}
 use Rattle.rules.proofs.Charge.{charge-is-owed}
@@ -29,10 +32,12 @@ use Rattle.rules.proofs.Reached.{reached, reached-sound}
 use Rattle.rules.proofs.Limit.{never-unsound}
 use Rattle.rules.proofs.Struck.{unstruck-in-room}
 use Rattle.rules.proofs.Bounded.{bounded-by, bounded-unstruck-by, bounded-as-asked-by}
-use Rattle.rules.proofs.Said.{said-step, record-keeps, refused-record}
+use Rattle.rules.proofs.Said.{record-keeps, refused-record}
+use Rattle.rules.proofs.Replays.{replay-said}
 use Rattle.rules.proofs.FirstVersion.{Settled, reply-picks, never-tidying}
 use Rattle.rules.proofs.Waits.{waiting-waits}
 use Rattle.rules.proofs.Budgets.{covers}
+use Rattle.rules.proofs.Traces.{accepted-ruled, ruled-accepted, differs-first, charge-there}
 use Rattle.rules.proofs.Quotes.{accepted-fits, fits-quoted, budget-covers}
 
 -- A refused record leaves the state as it was.
@@ -42,10 +47,7 @@ refused-same = refused-record
 -- A log read forwards comes to the state after the events that its records say.
 pub replay-after : (u : Setup) (xs past : List Heard)
     → replayFrom u (after u (said u past)) xs ≡ after u (said u (reverseAux xs past))
-unfolding replayFrom
-replay-after u [] past = refl
-replay-after u (x ∷ xs) past =
-    ap (λ s. replayFrom u s xs) (sym (said-step u fresh (said u past) x)) ∙ replay-after u xs (x ∷ past)
+replay-after = replay-said
 
 -- The stored charge is the sum over the history.
 pub stored-is-sum : (u : Setup) (c : ℕ) (h : List Event) → after u h .charge c ≡ owed u c h
@@ -93,6 +95,18 @@ bounded-as-asked u a = bounded-as-asked-by u a (by-priority u)
 pub bounded-unstruck-as-asked : (u : Setup) → Accepted u → BoundedUnstruckAsAsked u
 bounded-unstruck-as-asked u a h c r n = omega (arith, bounded-unstruck u a h c r n)
 
+-- All of it of one charge that is the sum over the history.
+pub charge-within : (u : Setup) → Accepted u → (h : List Event) (c n : ℕ) → realTime u c ≡ true → n ≡ owed u c h
+    → Within u h c n
+charge-within u a h c n r e = record {
+  is-sum = e;
+  at-most = omega (arith, e, bounded u a h c r);
+  unless-in-room = λ q. omega (arith, e, bounded-unstruck-in-room u a h c r q);
+  unless-struck = λ q. omega (arith, e, bounded-unstruck u a h c r q);
+  as-asked = omega (arith, e, bounded-as-asked u a h c r);
+  unless-struck-as-asked = λ q. omega (arith, e, bounded-unstruck-as-asked u a h c r q);
+}
+
 -- ALL WAITS OF A CLIENT, AND ITS BUDGET
 
 -- A wait by events, from an accepted invoke to the reply that ends it or the client's accepted abort, is a place in the
@@ -127,3 +141,23 @@ pub nineteen-never : (u : Setup) → Accepted u → (h : List Event) (x : Heard)
 nineteen-never u a h (known e) z = never-unsound u a h e z
 nineteen-never u a h replyReady z = never-unsound u a h reply z
 nineteen-never u a h unknown z = omega arith
+
+-- THE TRACE OF A KERNEL
+
+-- A trace is accepted exactly if it is what the rules give, entry by entry ..
+pub trace-exactly : (v : ℕ) (u : Setup) (es : List Traced)
+    → (traceVerdict v u es ≡ agrees → Ruled v u es) × (Ruled v u es → traceVerdict v u es ≡ agrees)
+trace-exactly v u es = (accepted-ruled v u es, ruled-accepted v u es)
+
+-- .. and else the entry that is named is the first that differs, and so is the part of it.
+pub trace-differs : (v : ℕ) (u : Setup) (es : List Traced) (i : ℕ) (p : Part)
+    → traceVerdict v u es ≡ differs i p → FirstDiffers v u es i p
+trace-differs = differs-first
+
+-- An accepted trace keeps demand 3: it holds of every charge that the kernel itself reported.
+pub trace-within : (v : ℕ) (u : Setup) → Accepted u → (past : List Traced) (e : Traced) (rest : List Traced)
+    → traceVerdict v u (past ++ (e ∷ rest)) ≡ agrees → (c : ℕ) → c < u .clients → realTime (trimmed u) c ≡ true
+    → Within (trimmed u) (traced v u (past ++ (e ∷ []))) c (getD (e .seen .charges) c 0)
+trace-within v u a past e rest q c b r =
+    charge-within (trimmed u) (trimmed-accepted u a) (traced v u (past ++ (e ∷ []))) c (getD (e .seen .charges) c 0) r
+    (charge-there v u past e rest (accepted-ruled v u (past ++ (e ∷ rest)) q) c b)

@@ -55,3 +55,17 @@ BoundedAsAsked u = (h : List Event) (c : ℕ) → realTime u c ≡ true
 abbrev pub BoundedUnstruckAsAsked : Setup → Type 0
 BoundedUnstruckAsAsked u = (h : List Event) (c : ℕ) → realTime u c ≡ true → struck u c h ≡ false
     → owed u c h ≤ worstUnstruck (u .size (u .cluster c)) (u .clusters) (span u)
+
+-- ALL OF IT OF ONE CHARGE
+
+-- n, as a client's charge after a history, is the sum over its events and within every figure.
+pub record Within (u : Setup) (h : List Event) (c n : ℕ) : Type 0 where
+  pub is-sum : n ≡ owed u c h
+  pub at-most : n ≤ reach (u .size (u .cluster c)) (u .clusters) (service u) (span u)
+  pub unless-in-room : struckInRoom u c h ≡ false
+      → n ≤ reachUnstruck (u .size (u .cluster c)) (u .clusters) (service u) (span u)
+  pub unless-struck : struck u c h ≡ false
+      → n ≤ reachUnstruck (u .size (u .cluster c)) (u .clusters) (service u) (span u)
+  pub as-asked : n ≤ worst (u .size (u .cluster c)) (u .clusters) (span u)
+  pub unless-struck-as-asked : struck u c h ≡ false
+      → n ≤ worstUnstruck (u .size (u .cluster c)) (u .clusters) (span u)
