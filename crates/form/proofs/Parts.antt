@@ -11,22 +11,15 @@ use borrow.Author.Tests.{eq-eqb, ne-eqb, ltb-true, ltb-false}
 use Rattle.rules.proofs.Tests.{by-test}
 use Rattle.text.specs.Text.{lf, WroteAt}
 use Rattle.text.proofs.Written.{wrote-none, wrote-on}
+use Rattle.text.proofs.Firsts.{take-least, held-on}
 use Rattle.order.specs.Orders.{asked}
 use Rattle.form.specs.declared.Standing.{Standing}
 use Rattle.form.specs.Input.{withoutCr, ended, behind, last}
 use Rattle.form.specs.Output.{line, lines}
 use Rattle.form.specs.Parts.{roomBytes, heldAfter, roomAfter, Answered, EndAnswered}
-use Rattle.form.proofs.Seams.{held-on, behind-held, lines-then, held-then}
+use Rattle.form.proofs.Seams.{behind-held, lines-then, held-then}
 
 -- THE ROOM
-
-pub take-least : (n : ℕ) (s : List ℕ) → take (min n (length s)) s ≡ take n s
-take-least n s =
-    by-test (ltb n (length s))
-    (λ y. let m : min n (length s) ≡ n = omega (arith, ltb-true n (length s) y) in rw m)
-    (λ f. let h = ltb-false n (length s) f in
-    let m : min n (length s) ≡ length s = omega arith in
-    rw (m, take-all n s h, take-all (length s) s (omega arith)))
 
 -- the count goes with what is held
 room-on : (room : List ℕ) (n : ℕ) (held s t : List ℕ) → length held ≡ n → n ≤ roomBytes

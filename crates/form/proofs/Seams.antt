@@ -7,26 +7,19 @@ use mathlib.Core.Path.{_≡_, refl, sym, ap, _∙_}
 use mathlib.Core.List.{List, [], _∷_, _++_, map, map-append, append-assoc, flatten}
 use lib.Dec.{eqb, ltb}
 use lib.ListN.{length, getD, take}
-use lib.Seq.{take-all, take-take, take-at, take-append-le, length-take-le}
+use lib.Seq.{take-all, take-take, length-take-le}
 use borrow.Author.Tests.{ltb-true, ltb-false}
 use Rattle.rules.specs.Quote.{Quote}
 use Rattle.rules.proofs.Tests.{by-test}
 use Rattle.order.specs.Orders.{asked}
 use Rattle.order.proofs.Asked.{too-long}
 use Rattle.text.specs.Text.{lf}
+use Rattle.text.proofs.Firsts.{held-on}
 use Rattle.form.specs.Input.{cr, withoutCr, ended, behind, last, answers}
 use Rattle.form.specs.Output.{line, lines}
 use Rattle.form.specs.Parts.{roomBytes, heldAfter, output}
 
 -- WHAT IS HELD IS ENOUGH
-
--- the first bytes of what is held with more are the first bytes of all
-pub held-on : (n : ℕ) (s t : List ℕ) → take n (take n s ++ t) ≡ take n (s ++ t)
-held-on n s t =
-    by-test (ltb n (length s))
-    (λ y. let h = ltb-true n (length s) y in
-    take-at (take n s) t n (length-take-le n s (omega arith)) ∙ sym (take-append-le n s t (omega arith)))
-    (λ f. ap (λ (u : List ℕ). take n (u ++ t)) (take-all n s (ltb-false n (length s) f)))
 
 length-order : (s : List ℕ) → length s ≤ length (withoutCr s) + 1
 length-order s =

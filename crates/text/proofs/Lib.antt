@@ -1,3 +1,4 @@
 -- What follows from the definitions.
 pub mod Decimal
 pub mod Written
+pub mod Firsts

@@ -7,7 +7,8 @@ use mathlib.Core.Path.{_≡_, sym, ap, _∙_, subst}
 use mathlib.Core.List.{List}
 use lib.ListN.{length, take}
 use lib.Seq.{length-take-le}
-use Rattle.form.proofs.Parts.{take-least, end-none, end-some}
+use Rattle.text.proofs.Firsts.{take-least}
+use Rattle.form.proofs.Parts.{end-none, end-some}
 use Rattle.form.specs.Parts.{roomBytes, EndAnswered}
 use Rattle.form.proofs.answer_end.Statement.{statement}
 use Rattle.form.proofs.answer_end.Tie as tie

@@ -7,8 +7,9 @@ use mathlib.Core.Path.{_≡_, sym, ap, _∙_, subst}
 use mathlib.Core.List.{List}
 use lib.ListN.{length, take}
 use lib.Seq.{length-take-le}
+use Rattle.text.proofs.Firsts.{take-least}
 use Rattle.form.specs.Parts.{roomBytes, Answered}
-use Rattle.form.proofs.Parts.{take-least, answered-least}
+use Rattle.form.proofs.Parts.{answered-least}
 use Rattle.form.proofs.answer_part.Statement.{statement}
 use Rattle.form.proofs.answer_part.Tie as tie
 
