@@ -2,7 +2,7 @@
 -- Assumes nothing.
 use Prim.Native.Nat.{ℕ, _+_, _*_, _≤_, _<_}
 use mathlib.Core.Path.{_≡_, sym, ap, _∙_}
-use mathlib.Core.Bool.{true, false}
+use mathlib.Core.Bool.{true}
 use mathlib.Core.List.{List, [], _∷_}
 use native.Mathlib.Omega.{arith}
 use lib.IntN.{natAbs}
@@ -10,19 +10,18 @@ use lib.ListN.{getD}
 use Rattle.rules.specs.Limits.{maxClients}
 use Rattle.rules.specs.Refusals.{accepted, unsound}
 use Rattle.rules.specs.Setup as rules
-use Rattle.rules.specs.Setup.{Accepted, realTime, service, span}
+use Rattle.rules.specs.Setup.{Accepted, realTime, span}
 use Rattle.rules.specs.State.{State, fresh}
 use Rattle.rules.specs.Sound.{Sound}
 use Rattle.rules.specs.Events.{Event}
 use Rattle.rules.specs.Records.{Heard, answerOf, stepOf}
-use Rattle.rules.specs.History.{after, said, owed, owedInAll, calls, struck, struckInRoom}
-use Rattle.rules.specs.Demands.{worst, worstUnstruck, reach, reachUnstruck}
+use Rattle.rules.specs.History.{after, said, owed, owedInAll, calls}
+use Rattle.rules.specs.Demands.{worst, Within}
 use Rattle.rules.specs.Quote.{Order, quote}
 use Rattle.rules.specs.Budgets.{Use, Keeps, chargedFor}
 use Rattle.rules.proofs.Setups.{allowed}
-use Rattle.rules.proofs.Theorems.{sound-stays, stored-is-sum, bounded, bounded-unstruck-in-room, bounded-unstruck}
-use Rattle.rules.proofs.Theorems.{bounded-as-asked, bounded-unstruck-as-asked, nineteen-never, bounded-in-all}
-use Rattle.rules.proofs.Theorems.{within-budget}
+use Rattle.rules.proofs.Theorems.{sound-stays, stored-is-sum, charge-within as sum-within, nineteen-never}
+use Rattle.rules.proofs.Theorems.{bounded-in-all, within-budget}
 use Rattle.rules.proofs.Said.{said-step}
 use Rattle.gate.specs.declared.Setup.{Setup}
 use Rattle.gate.specs.declared.Gate.{Gate}
@@ -33,7 +32,7 @@ use Rattle.gate.proofs.Tables.{table-at}
 use Rattle.parts.proofs.SoundShows.{fresh-sound}
 use Rattle.step.specs.Stepped.{Result, stepped}
 use Rattle.demands.specs.Histories.{gateAfter, answerAfter, chargeAfter}
-use Rattle.demands.proofs.Steps.{step-shown}
+use Rattle.step.proofs.Shown.{step-shown}
 
 module _ (v : Setup) (a : Accepted (setupOf v)) where
   -- the rules' setup of the gate that is made
@@ -79,34 +78,16 @@ module _ (v : Setup) (a : Accepted (setupOf v)) where
 
   -- THE DEMAND
 
-  -- What a client's charge is after some history, with S for L + W: the sum over the events, at most 2L + 2mKS, and
-  -- at most L + 2mKS where no accepted abort hit its own cluster's request in service while it was in the waiting
-  -- room, and so where none did during its wait. The figures that are asked for, (2 + 2mK)S and (1 + 2mK)S, are no
-  -- smaller.
-  pub record Within (h : List Heard) (c : ℕ) : Type 0 where
-    pub is-sum : chargeAfter (made v .gate) h c ≡ owed u c (said u h)
-    pub at-most : chargeAfter (made v .gate) h c ≤ reach (u .size (u .cluster c)) (u .clusters) (service u) (span u)
-    pub unless-in-room : struckInRoom u c (said u h) ≡ false
-        → chargeAfter (made v .gate) h c ≤ reachUnstruck (u .size (u .cluster c)) (u .clusters) (service u) (span u)
-    pub unless-struck : struck u c (said u h) ≡ false
-        → chargeAfter (made v .gate) h c ≤ reachUnstruck (u .size (u .cluster c)) (u .clusters) (service u) (span u)
-    pub as-asked : chargeAfter (made v .gate) h c ≤ worst (u .size (u .cluster c)) (u .clusters) (span u)
-    pub unless-struck-as-asked : struck u c (said u h) ≡ false
-        → chargeAfter (made v .gate) h c ≤ worstUnstruck (u .size (u .cluster c)) (u .clusters) (span u)
-
-  -- After any events and any records, refused ones among them, this holds of every real-time client's charge.
-  pub charge-within : (h : List Heard) (c : ℕ) → c < u .clients → realTime u c ≡ true → Within h c
+  -- After any events and any records, refused ones among them, a real-time client's charge is the sum over the events,
+  -- at most 2L + 2mKS, with S for L + W, and at most L + 2mKS where no accepted abort hit its own cluster's request in
+  -- service while it was in the waiting room, and so where none did during its wait. The figures that are asked for,
+  -- (2 + 2mK)S and (1 + 2mK)S, are no smaller.
+  pub charge-within : (h : List Heard) (c : ℕ) → c < u .clients → realTime u c ≡ true
+      → Within u (said u h) c (chargeAfter (made v .gate) h c)
   charge-within h c b r =
       let ok = sound-after [] .setup in
-      let e = stored h c (omega (arith, allowed u ok .few-clients)) in
-      record {
-        is-sum = e;
-        at-most = omega (arith, e, bounded u ok (said u h) c r);
-        unless-in-room = λ n. omega (arith, e, bounded-unstruck-in-room u ok (said u h) c r n);
-        unless-struck = λ n. omega (arith, e, bounded-unstruck u ok (said u h) c r n);
-        as-asked = omega (arith, e, bounded-as-asked u ok (said u h) c r);
-        unless-struck-as-asked = λ n. omega (arith, e, bounded-unstruck-as-asked u ok (said u h) c r n);
-      }
+      sum-within u ok (said u h) c (chargeAfter (made v .gate) h c) r
+      (stored h c (omega (arith, allowed u ok .few-clients)))
 
   -- WHAT A QUOTE IS FOR
 

@@ -16,7 +16,7 @@ use Rattle.answers.specs.declared.Answer.{Answer}
 use Rattle.step.specs.declared.Answered.{Answered}
 use Rattle.answers.proofs.Only.{one-answer}
 use Rattle.step.specs.Stepped.{Result, toldIn, stepped}
-use Rattle.demands.proofs.Steps.{step-shown}
+use Rattle.step.proofs.Shown.{step-shown}
 
 -- SOUND GATES
 

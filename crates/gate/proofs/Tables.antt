@@ -5,8 +5,10 @@ use mathlib.Core.Path.{_≡_, refl, ap, ap₂, _∙_}
 use mathlib.Core.List.{List, [], _∷_, _++_}
 use native.Mathlib.Omega.{arith}
 use lib.Dec.{eqb·zero-suc, eqb·suc-zero, eqb·suc-suc}
-use lib.ListN.{length, getD, set}
+use lib.ListN.{length, getD, set, take}
+use lib.Seq.{take-suc}
 use Rattle.rules.specs.Lists.{upd}
+use Rattle.rules.specs.Replay.{chargesBelow}
 use Rattle.gate.specs.Shown.{table}
 
 pub length-table : {A : Type 0} (n : ℕ) (f : ℕ → A) → length (table n f) ≡ n
@@ -57,3 +59,10 @@ pub table-snoc : {A : Type 0} (n : ℕ) (f : ℕ → A) → table (suc n) f ≡ 
 unfolding table
 table-snoc zero f = refl
 table-snoc (suc n) f = ap (λ l. f 0 ∷ l) (table-snoc n (λ i. f (suc i)))
+
+-- the charges of the first n clients of w
+pub charges-first : (f : ℕ → ℕ) (w n : ℕ) → n ≤ w → take n (table w f) ≡ chargesBelow f n
+charges-first f w zero h = refl
+charges-first f w (suc n) h =
+    take-suc (table w f) n 0 (omega (arith, length-table w f))
+    ∙ ap₂ (λ (x : List ℕ) (y : ℕ). x ++ (y ∷ [])) (charges-first f w n (omega arith)) (table-at w f n 0 (omega arith))

@@ -11,11 +11,13 @@ use gate::Setup;
 use gate::heard_in;
 use parts::Queues;
 ghost use mathlib.Core.Path.{_≡_};
+ghost use mathlib.Core.Bool.{true};
 ghost use lib.ListN.{length};
 ghost use Rattle.rules.specs.Limits.{maxClients};
 ghost use Rattle.rules.specs.Records.{newest, known, heardOf};
 ghost use Rattle.gate.specs.Heard.{eventIn, heardIn};
 ghost use Rattle.parts.specs.Parts.{setupWith, gateOf};
+ghost use Rattle.soundness.specs.Clauses.{soundOf};
 ghost use Rattle.step.specs.Stepped.{toldIn, stepped, Stands, Steps};
 
 // The answer, and the gate after.
@@ -109,9 +111,7 @@ pub fn sound_record<'a>(
     }
 }
 
-// THE PUBLIC DOOR
-
-// What a record says, on the parts of a sound gate; the gate is put together after.
+// The same, with the gate put together after.
 fn joined_record(s: Setup, q: Queues, charges: [u32; 64], h: Heard) -> Answered
     requires { ⌜ Stands s q charges ⌝ }
     ensures { λ r. ⌜ toldIn r ≡ stepped (gateOf s q charges) (heardIn h) ⌝ }
@@ -139,8 +139,20 @@ fn joined_record(s: Setup, q: Queues, charges: [u32; 64], h: Heard) -> Answered
     }
 }
 
+// What a record says, on a sound gate whole.
+pub fn sound_heard(g: Gate, h: Heard) -> Answered
+    requires { ⌜ soundOf g ≡ true ⌝ }
+    ensures { λ r. ⌜ toldIn r ≡ stepped g (heardIn h) ⌝ }
+{
+    let s = g.setup;
+    let charges = g.charges;
+    joined_record(s, parts::queues_of(g), charges, h)
+}
+
+// THE PUBLIC DOOR
+
 // What a record says, on any gate: 19 before all else.
-fn checked_record(g: Gate, h: Heard) -> Answered
+pub fn step_heard(g: Gate, h: Heard) -> Answered
     ensures { λ r. ⌜ toldIn r ≡ stepped g (heardIn h) ⌝ }
 {
     if !sound_check::sound(g) {
@@ -149,21 +161,19 @@ fn checked_record(g: Gate, h: Heard) -> Answered
             gate: g,
         };
     }
-    let s = g.setup;
-    let charges = g.charges;
-    joined_record(s, parts::queues_of(g), charges, h)
+    sound_heard(g, h)
 }
 
 // An event on any gate.
 pub fn step(g: Gate, e: Event) -> Answered
     ensures { λ r. ⌜ toldIn r ≡ stepped g (known (eventIn e)) ⌝ }
 {
-    checked_record(g, Heard::Known(e))
+    step_heard(g, Heard::Known(e))
 }
 
 // A raw record, code and argument, as the newest logs have it, on any gate: 19 before 18.
 pub fn step_record(g: Gate, code: u8, argument: u16) -> Answered
     ensures { λ r. ⌜ toldIn r ≡ stepped g (heardOf newest (record { code = code; argument = argument })) ⌝ }
 {
-    checked_record(g, heard_in(NEWEST_VERSION, code, argument))
+    step_heard(g, heard_in(NEWEST_VERSION, code, argument))
 }
