@@ -1,0 +1,2 @@
+-- A checker of traces. Nothing is proved here.
+pub mod Checking
