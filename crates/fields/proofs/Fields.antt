@@ -20,6 +20,10 @@ some-withFirst : (b : ℕ) (fs : List (List ℕ)) → 0 < length (withFirst b fs
 some-withFirst b [] = omega arith
 some-withFirst b (f ∷ fs) = omega arith
 
+few-withFirst : (b : ℕ) (fs : List (List ℕ)) (n : ℕ) → length fs ≤ n → 0 < n → length (withFirst b fs) ≤ n
+few-withFirst b [] n h some = omega arith
+few-withFirst b (f ∷ fs) n h some = h
+
 module _ (separator : ℕ) where
   -- THE FIRST FIELD
 
@@ -50,6 +54,14 @@ module _ (separator : ℕ) where
   some-field [] = omega arith
   some-field (b ∷ s) =
       by-test (eqb b separator) (λ y. rw y (omega arith)) (λ n. rw n (some-withFirst b (fields separator s)))
+
+  -- at most one for each byte, and one more
+  pub few-fields : (s : List ℕ) → length (fields separator s) ≤ length s + 1
+  few-fields [] = omega arith
+  few-fields (b ∷ s) =
+      let rest = few-fields s in
+      by-test (eqb b separator) (λ y. rw y (omega arith))
+      (λ n. rw n (few-withFirst b (fields separator s) (suc (length s) + 1) (omega arith) (omega arith)))
 
   -- FROM BYTE i ON
 

@@ -7,7 +7,7 @@ use mathlib.Core.List.{List, [], _∷_, map}
 use lib.Dec.{eqb, ltb}
 use lib.ListN.{length, getD, take, drop, set, replicate, length-take, length-set, length-map, length-replicate}
 use lib.ListN.{getD-replicate, List·getD-eq-default}
-use lib.Seq.{take-all, getD-take, getD-set-same, getD-set-other}
+use lib.Seq.{take-all, length-take-le, getD-take, getD-set-same, getD-set-other, ext-getD}
 use borrow.Author.Tests.{eqb-true, eqb-false, ltb-true, ltb-false}
 use Rattle.rules.proofs.Tests.{by-test}
 use Rattle.fields.specs.Fields.{fields, fieldLength, EndsAt, Placed}
@@ -24,6 +24,16 @@ pub placed-at : {A : Type 0} (d : A) (vs v : List A) (n : ℕ) (e : A) → Place
     → (j : ℕ) → j < n → getD v j d ≡ getD vs j e
 placed-at d vs v n e placed j h =
     placed j (omega (arith, length-replicate n e)) ∙ ap (getD vs j) (getD-replicate n j e d h)
+
+-- values for each of which there is a place are the first places
+pub placed-first : {A : Type 0} (d : A) (vs before v : List A) → length v ≡ length before → length vs ≤ length before
+    → Placed d vs before v → take (length vs) v ≡ vs
+placed-first d vs before v long few placed =
+    let n = length-take-le (length vs) v (omega arith) in
+    ext-getD d (take (length vs) v) vs n
+    (λ j h. getD-take (length vs) v j d (omega arith)
+    ∙ placed j (omega arith)
+    ∙ getD-any vs j (getD before j d) d (omega arith))
 
 -- ONE MORE
 

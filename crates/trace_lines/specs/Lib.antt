@@ -1,0 +1,2 @@
+-- A line of a trace as numbers. Nothing is proved here.
+pub mod Lines
