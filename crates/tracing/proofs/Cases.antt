@@ -1,0 +1,123 @@
+-- Lines of a trace and what each makes of it, computed: stage, lines, rows and verdict.
+-- Assumes nothing.
+use Prim.Native.Nat.{ℕ}
+use mathlib.Core.Path.{_≡_, refl}
+use mathlib.Core.Bool.{true, false}
+use mathlib.Core.List.{List, [], _∷_, _++_}
+use mathlib.Core.Option.{some, none}
+use Rattle.rules.specs.Setup.{setupAnswer}
+use Rattle.gate.specs.Shown.{table}
+use Rattle.text.specs.Text.{space, decimal}
+use Rattle.numerals.specs.Plain.{plainOf}
+use Rattle.checking.specs.declared.Verdict.{Verdict}
+use Rattle.checking.specs.declared.Verdict.the-variants.{Refused, Agrees}
+use Rattle.checking.specs.Checking.{begun}
+use Rattle.trace_lines.specs.Lines.{dash, valuesOf, fitIn, allFit}
+use Rattle.tracing.specs.declared.Stage.{Stage}
+use Rattle.tracing.specs.declared.Stage.the-variants.{Head, Sizes, Rows, Entries, Malformed}
+use Rattle.tracing.specs.Shapes.{headFits, headSetup, withSizes, withRow, rowFits, entryFits, seenOf}
+use Rattle.tracing.specs.Tracing.{noneRead, taken, takenAll}
+
+-- THE NUMBERS OF EACH KIND OF LINE
+
+-- VERSION K N L, in version 2 with W
+pub heads :
+    (headFits (1 ∷ 8 ∷ 64 ∷ 65535 ∷ []) ≡ true)
+    × (headFits (2 ∷ 8 ∷ 64 ∷ 65535 ∷ 0 ∷ []) ≡ true)
+    × (headFits (1 ∷ 255 ∷ 255 ∷ 0 ∷ []) ≡ true)
+    × (headFits (2 ∷ 1 ∷ 1 ∷ 1 ∷ []) ≡ false)
+    × (headFits (1 ∷ 1 ∷ 1 ∷ 1 ∷ 0 ∷ []) ≡ false)
+    × (headFits (2 ∷ 1 ∷ 1 ∷ 1 ∷ 65535 ∷ []) ≡ true)
+    × (headFits (2 ∷ 1 ∷ 1 ∷ 1 ∷ 65536 ∷ []) ≡ false)
+    × (headFits (0 ∷ 1 ∷ 1 ∷ 1 ∷ []) ≡ false)
+    × (headFits (3 ∷ 1 ∷ 1 ∷ 1 ∷ 1 ∷ []) ≡ false)
+    × (headFits (1 ∷ 256 ∷ 1 ∷ 1 ∷ []) ≡ false)
+    × (headFits (1 ∷ 1 ∷ 256 ∷ 1 ∷ []) ≡ false)
+    × (headFits (1 ∷ 1 ∷ 1 ∷ 65536 ∷ []) ≡ false)
+    × (headFits (1 ∷ 1 ∷ 1 ∷ []) ≡ false)
+    × (headFits [] ≡ false)
+unfolding headFits fitIn
+heads = (refl, refl, refl, refl, refl, refl, refl, refl, refl, refl, refl, refl, refl, refl)
+
+-- CODE ARGUMENT ANSWER SERVED, and charges
+pub entries :
+    (entryFits (1 ∷ 3 ∷ 0 ∷ 3 ∷ []) ≡ true)
+    × (entryFits (255 ∷ 65535 ∷ 65535 ∷ 65535 ∷ 4294967295 ∷ 0 ∷ []) ≡ true)
+    × (entryFits (3 ∷ 0 ∷ 0 ∷ dash ∷ 7 ∷ []) ≡ true)
+    × (entryFits (3 ∷ 0 ∷ 0 ∷ []) ≡ false)
+    × (entryFits (256 ∷ 0 ∷ 0 ∷ 0 ∷ []) ≡ false)
+    × (entryFits (0 ∷ 65536 ∷ 0 ∷ 0 ∷ []) ≡ false)
+    × (entryFits (0 ∷ 0 ∷ 65536 ∷ 0 ∷ []) ≡ false)
+    × (entryFits (0 ∷ 0 ∷ 0 ∷ 65536 ∷ []) ≡ false)
+    × (entryFits (0 ∷ 0 ∷ dash ∷ 0 ∷ []) ≡ false)
+    × (entryFits (0 ∷ 0 ∷ 0 ∷ 0 ∷ dash ∷ []) ≡ false)
+    × (entryFits (0 ∷ 0 ∷ 0 ∷ 0 ∷ 1 ∷ 4294967296 ∷ []) ≡ false)
+    × (seenOf (1 ∷ 2 ∷ 3 ∷ 4 ∷ 5 ∷ 6 ∷ []) ≡ record { answer = 3; served = some 4; charges = 5 ∷ 6 ∷ [] })
+    × (seenOf (1 ∷ 2 ∷ 3 ∷ dash ∷ []) ≡ record { answer = 3; served = none; charges = [] })
+unfolding fitIn allFit
+entries = (refl, refl, refl, refl, refl, refl, refl, refl, refl, refl, refl, refl, refl)
+
+-- KIND CLUSTER PRIORITY
+pub rows :
+    (rowFits (255 ∷ 255 ∷ 65535 ∷ []) ≡ true)
+    × (rowFits (0 ∷ 0 ∷ []) ≡ false)
+    × (rowFits (0 ∷ 0 ∷ 0 ∷ 0 ∷ []) ≡ false)
+    × (rowFits (256 ∷ 0 ∷ 0 ∷ []) ≡ false)
+    × (rowFits (0 ∷ 256 ∷ 0 ∷ []) ≡ false)
+    × (rowFits (0 ∷ 0 ∷ 65536 ∷ []) ≡ false)
+unfolding fitIn
+rows = (refl, refl, refl, refl, refl, refl)
+
+-- LINE BY LINE
+
+-- a letter, and numbers behind it
+abbrev numbers : List ℕ → List ℕ
+numbers [] = []
+numbers (n ∷ ns) = space ∷ decimal n ++ numbers ns
+
+abbrev S : List ℕ → List ℕ
+S ns = 83 ∷ numbers ns
+
+abbrev Z : List ℕ → List ℕ
+Z ns = 90 ∷ numbers ns
+
+abbrev C : List ℕ → List ℕ
+C ns = 67 ∷ numbers ns
+
+pub record Shown : Type 0 where
+  pub stage : Stage
+  pub lines : ℕ
+  pub rows : ℕ
+  pub verdict : Verdict
+
+abbrev shownAs : Stage → ℕ → ℕ → Verdict → Shown
+shownAs st n r v = record { stage = st; lines = n; rows = r; verdict = v }
+
+abbrev show : List (List ℕ) → Shown
+show ls =
+    let t = takenAll noneRead ls in
+    record { stage = t .stage; lines = t .lines; rows = t .rows; verdict = t .checker .verdict }
+
+pub setups :
+    -- nothing
+    (show [] ≡ shownAs Head 0 0 (Refused 22))
+    -- a good one, line by line
+    × (show (S (1 ∷ 1 ∷ 1 ∷ 10 ∷ []) ∷ []) ≡ shownAs Sizes 1 0 (Refused 4))
+    × (show (S (1 ∷ 1 ∷ 1 ∷ 10 ∷ []) ∷ Z (1 ∷ []) ∷ []) ≡ shownAs Rows 2 0 (Refused 4))
+    × (show (S (1 ∷ 1 ∷ 1 ∷ 10 ∷ []) ∷ Z (1 ∷ []) ∷ C (0 ∷ 0 ∷ 5 ∷ []) ∷ []) ≡ shownAs Entries 3 1 Agrees)
+    × (show (S (2 ∷ 1 ∷ 0 ∷ 10 ∷ 7 ∷ []) ∷ Z (1 ∷ []) ∷ []) ≡ shownAs Entries 2 0 Agrees)
+    -- 1, 2 and 3 at once, whatever follows; 4 and 5 behind the last row
+    × (show (S (1 ∷ 0 ∷ 0 ∷ 10 ∷ []) ∷ Z (1 ∷ []) ∷ []) ≡ shownAs Entries 1 0 (Refused 1))
+    × (show (S (1 ∷ 9 ∷ 0 ∷ 0 ∷ []) ∷ [] ∷ []) ≡ shownAs Entries 1 0 (Refused 1))
+    × (show (S (1 ∷ 1 ∷ 65 ∷ 0 ∷ []) ∷ []) ≡ shownAs Entries 1 0 (Refused 2))
+    × (show (S (1 ∷ 1 ∷ 65 ∷ 1 ∷ []) ∷ []) ≡ shownAs Entries 1 0 (Refused 3))
+    × (show (S (1 ∷ 1 ∷ 0 ∷ 1 ∷ []) ∷ Z (9 ∷ []) ∷ []) ≡ shownAs Entries 2 0 (Refused 4))
+    × (show (S (1 ∷ 1 ∷ 1 ∷ 1 ∷ []) ∷ Z (9 ∷ []) ∷ C (0 ∷ 0 ∷ []) ∷ []) ≡ shownAs Malformed 3 0 (Refused 4))
+    × (show (S (1 ∷ 1 ∷ 1 ∷ 1 ∷ []) ∷ Z (1 ∷ []) ∷ C (0 ∷ 1 ∷ 0 ∷ []) ∷ []) ≡ shownAs Entries 3 1 (Refused 5))
+    -- malformed: another letter, too many sizes, a blank line; and nothing after it counts
+    × (show (Z (1 ∷ []) ∷ []) ≡ shownAs Malformed 1 0 (Refused 22))
+    × (show (S (1 ∷ 1 ∷ 1 ∷ 1 ∷ []) ∷ Z (1 ∷ 1 ∷ []) ∷ []) ≡ shownAs Malformed 2 0 (Refused 4))
+    × (show (S (1 ∷ 1 ∷ 1 ∷ 1 ∷ []) ∷ [] ∷ Z (1 ∷ []) ∷ []) ≡ shownAs Malformed 2 0 (Refused 4))
+unfolding noneRead taken headFits headSetup withSizes withRow valuesOf fitIn plainOf decimal begun setupAnswer table
+setups =
+    (refl, refl, refl, refl, refl, refl, refl, refl, refl, refl, refl, refl, refl, refl, refl)

@@ -1,0 +1,117 @@
+-- A trace as lines of text: what has been read of it, and what one more line makes of that.
+-- Assumes nothing.
+use Prim.Native.Nat.{ℕ}
+use mathlib.Core.Path.{_≡_}
+use mathlib.Core.Bool.{Bool, true, false, not, cond}
+use mathlib.Core.List.{List, [], _∷_}
+use lib.Dec.{eqb, ltb}
+use lib.ListN.{getD}
+use Rattle.rules.specs.Refusals.{badSize}
+use Rattle.rules.specs.Traces.{Traced}
+use Rattle.gate.specs.declared.Setup.{Setup}
+use Rattle.checking.specs.declared.Verdict.{Verdict}
+use Rattle.checking.specs.declared.Verdict.the-variants.{Refused, Agrees, Differs}
+use Rattle.checking.specs.declared.Checker.{Checker}
+use Rattle.checking.specs.Checking.{begun, isAgreeing, nextCount, checked}
+use Rattle.trace_lines.specs.Lines.{valuesOf}
+use Rattle.tracing.specs.declared.Stage.{Stage}
+use Rattle.tracing.specs.declared.Stage.the-variants.{Head, Sizes, Rows, Entries, Malformed}
+use Rattle.tracing.specs.declared.Trace.{Trace}
+use Rattle.tracing.specs.Shapes.{headFits, headSetup, sizesFit, withSizes, rowFits, withRow, entryFits, eventIn}
+use Rattle.tracing.specs.Shapes.{seenOf}
+
+-- the stage, how many lines and how many rows were read, the setup so far and the checker
+abbrev pub trace : Stage → ℕ → ℕ → Setup → Checker → Trace
+trace st n r s k = record { stage = st; lines = n; rows = r; setup = s; checker = k }
+
+-- before the first line
+unfoldable pub noneRead : Trace
+noneRead = trace Head 0 0 (headSetup []) (begun 0 (headSetup []))
+
+-- WHAT IS DECIDED
+
+abbrev pub decidedIn : Stage → Verdict → Bool
+decidedIn Head x = false
+decidedIn Sizes x = false
+decidedIn Rows x = false
+decidedIn Entries x = not (isAgreeing x)
+decidedIn Malformed x = true
+
+-- nothing after it counts
+abbrev pub isDecided : Trace → Bool
+isDecided t = decidedIn (t .stage) (t .checker .verdict)
+
+-- ONE MORE LINE, which t has counted
+
+-- a setup without sizes that is refused with 4 alone may yet be a good one
+abbrev pub awaitsSizes : Verdict → Stage
+awaitsSizes (Refused n) = cond (eqb n badSize) Sizes Entries
+awaitsSizes Agrees = Entries
+awaitsSizes (Differs i p) = Entries
+
+module _ (t : Trace) where
+  abbrev pub malformed : Trace
+  malformed = trace Malformed (t .lines) (t .rows) (t .setup) (t .checker)
+
+  -- Line S: then `refused 1`, `refused 2`, `refused 3`, whatever follows.
+  abbrev pub headed : List ℕ → Trace
+  headed vs =
+      let k = begun (getD vs 0 0) (headSetup vs) in
+      trace (awaitsSizes (k .verdict)) (t .lines) 0 (headSetup vs) k
+
+  -- Lines Z and C: once N rows are there, `refused 4`, `refused 5`, whatever follows; or the entries begin.
+  abbrev pub tabled : ℕ → Setup → Trace
+  tabled r s =
+      cond (ltb r (s .clients)) (trace Rows (t .lines) r s (t .checker))
+      (trace Entries (t .lines) r s (begun (t .checker .version) s))
+
+  abbrev pub sized : List ℕ → Trace
+  sized vs = tabled (t .rows) (withSizes vs (t .setup))
+
+  abbrev pub rowed : List ℕ → Trace
+  rowed vs = tabled (nextCount (t .rows)) (withRow (t .rows) vs (t .setup))
+
+  -- Lines E: an entry for the checker.
+  abbrev pub entered : List ℕ → Trace
+  entered vs = trace Entries (t .lines) (t .rows) (t .setup) (checked (t .checker) (eventIn vs) (seenOf vs))
+
+-- a line whose numbers fit, or a malformed one
+abbrev pub by : (List ℕ → Bool) → (List ℕ → Trace) → Trace → List ℕ → Trace
+by fits next other vs = cond (fits vs) (next vs) other
+
+-- by the stage: the letter that its line begins with, S, Z, C or E
+abbrev pub letterOf : Stage → ℕ
+letterOf Head = 83
+letterOf Sizes = 90
+letterOf Rows = 67
+letterOf Entries = 69
+letterOf Malformed = 0
+
+-- and what its numbers say
+abbrev pub takenIn : Stage → Trace → List ℕ → Trace
+takenIn Head t = by headFits (headed t) (malformed t)
+takenIn Sizes t = by (sizesFit (t .setup .clusters)) (sized t) (malformed t)
+takenIn Rows t = by rowFits (rowed t) (malformed t)
+takenIn Entries t = by entryFits (entered t) (malformed t)
+takenIn Malformed t = λ vs. t
+
+abbrev pub counted : Trace → Trace
+counted t = trace (t .stage) (nextCount (t .lines)) (t .rows) (t .setup) (t .checker)
+
+unfoldable pub taken : Trace → List ℕ → Trace
+taken t l = cond (isDecided t) t (takenIn (t .stage) (counted t) (valuesOf (letterOf (t .stage)) l))
+
+-- ALL LINES, one after the other
+
+abbrev pub takenAll : Trace → List (List ℕ) → Trace
+takenAll t [] = t
+takenAll t (l ∷ ls) = takenAll (taken t l) ls
+
+-- the entry that a line E says
+abbrev pub tracedIn : List ℕ → Traced
+tracedIn l = let vs = valuesOf (letterOf Entries) l in record { event = eventIn vs; seen = seenOf vs }
+
+-- each of the lines is a well formed entry
+abbrev pub AllEntries : List (List ℕ) → Type 0
+AllEntries [] = Unit {0}
+AllEntries (l ∷ ls) = (entryFits (valuesOf (letterOf Entries) l) ≡ true) × AllEntries ls

@@ -1,0 +1,176 @@
+// The lines of a trace by their numbers: whether each kind fits, and the setup or entry that they say.
+
+use checking::Served;
+use gate::Client;
+use gate::Gate;
+use gate::Setup;
+use layout::carries_tidy;
+use layout::is_version;
+use trace_lines::BITS_8;
+use trace_lines::BITS_16;
+use trace_lines::NOBODY;
+use trace_lines::fit;
+ghost use mathlib.Core.Path.{_≡_};
+ghost use Prim.Native.Nat.{ℕ, _≤_, _<_};
+ghost use lib.ListN.{getD};
+ghost use Rattle.rules.specs.Limits.{maxClusters};
+ghost use Rattle.gate.specs.Shown.{table};
+ghost use Rattle.checking.specs.Checking.{servedIn};
+ghost use Rattle.trace_lines.specs.Lines.{bits8, bits16, dash};
+ghost use Rattle.tracing.specs.Shapes.{headFits, headSetup, HeadNumbers, sizesFit, withSizes, rowFits, withRow};
+ghost use Rattle.tracing.specs.Shapes.{RowNumbers, entryBegins, servedOf};
+
+// The number at a place, 0 where there is none.
+pub fn value_at(vs: &[u64], i: usize) -> u64
+    ensures { λ r. ⌜ r ≡ getD (now (vs .entry)) i 0 ⌝ }
+{
+    if i < vs.len() { vs[i] } else { 0 }
+}
+
+pub fn byte(x: u64) -> u8
+    requires { ⌜ x ≤ bits8 ⌝ }
+    ensures { λ r. ⌜ r ≡ x ⌝ }
+{
+    x as u8
+}
+
+pub fn word(x: u64) -> u16
+    requires { ⌜ x ≤ bits16 ⌝ }
+    ensures { λ r. ⌜ r ≡ x ⌝ }
+{
+    x as u16
+}
+
+// LINE S
+
+pub fn head_fits(vs: &[u64]) -> bool
+    ensures { λ r. ⌜ r ≡ headFits (now (vs .entry)) ⌝ }
+{
+    let x = value_at(vs, 0);
+    if BITS_16 < x {
+        return false;
+    }
+    let version = word(x);
+    if !is_version(version) {
+        return false;
+    }
+    if carries_tidy(version) {
+        let widths = [BITS_16, BITS_8, BITS_8, BITS_16, BITS_16];
+        return fit(&widths, vs);
+    }
+    let widths = [BITS_16, BITS_8, BITS_8, BITS_16];
+    fit(&widths, vs)
+}
+
+// The setup before its tables.
+pub fn head_setup(vs: &[u64]) -> Setup
+    requires { ⌜ HeadNumbers (now vs) ⌝ }
+    ensures { λ r. ⌜ r ≡ headSetup (now (vs .entry)) ⌝ }
+{
+    Setup {
+        clusters: byte(value_at(vs, 1)),
+        clients: byte(value_at(vs, 2)),
+        cap: word(value_at(vs, 3)),
+        tidy: word(value_at(vs, 4)),
+        sizes: [0u8; 8],
+        kinds: [0u8; 64],
+        homes: [0u8; 64],
+        priorities: [0u16; 64],
+    }
+}
+
+// LINE Z
+
+pub fn sizes_fit(k: u8, vs: &[u64]) -> bool
+    ensures { λ r. ⌜ r ≡ sizesFit k (now (vs .entry)) ⌝ }
+{
+    let widths = [BITS_8; 256];
+    let n = gate::wide(k);
+    fit(&widths[..n], vs)
+}
+
+fn sizes_in(vs: &[u64]) -> [u8; 8]
+    requires { ⌜ ((k : ℕ) → getD (now vs) k 0 ≤ bits8) ⌝ }
+    ensures { λ r. ⌜ r ≡ table maxClusters (λ (k : ℕ). getD (now (vs .entry)) k 0) ⌝ }
+{
+    let mut sizes = [0u8; 8];
+    let mut k: usize = 0;
+    while k < Gate::MAX_CLUSTERS {
+        sizes[k] = byte(value_at(vs, k));
+        k += 1;
+    }
+    sizes
+}
+
+pub fn with_sizes(s: Setup, vs: &[u64]) -> Setup
+    requires { ⌜ ((k : ℕ) → getD (now vs) k 0 ≤ bits8) ⌝ }
+    ensures { λ r. ⌜ r ≡ withSizes (now (vs .entry)) s ⌝ }
+{
+    let sizes = sizes_in(vs);
+    let kinds = s.kinds;
+    let homes = s.homes;
+    let priorities = s.priorities;
+    Setup {
+        clusters: s.clusters,
+        clients: s.clients,
+        cap: s.cap,
+        tidy: s.tidy,
+        sizes: sizes,
+        kinds: kinds,
+        homes: homes,
+        priorities: priorities,
+    }
+}
+
+// LINES C
+
+pub fn row_fits(vs: &[u64]) -> bool
+    ensures { λ r. ⌜ r ≡ rowFits (now (vs .entry)) ⌝ }
+{
+    let widths = [BITS_8, BITS_8, BITS_16];
+    fit(&widths, vs)
+}
+
+// The setup with the row of client c, if there is a place for it.
+pub fn with_row(s: Setup, c: u64, vs: &[u64]) -> Setup
+    requires { ⌜ RowNumbers (now vs) ⌝ }
+    ensures { λ r. ⌜ r ≡ withRow c (now (vs .entry)) s ⌝ }
+{
+    let at = c as usize;
+    if at < Gate::MAX_CLIENTS {
+        let mut next = s;
+        next.kinds[at] = byte(value_at(vs, 0));
+        next.homes[at] = byte(value_at(vs, 1));
+        next.priorities[at] = word(value_at(vs, 2));
+        return next;
+    }
+    s
+}
+
+// LINES E
+
+pub fn entry_begins(vs: &[u64]) -> bool
+    ensures { λ r. ⌜ r ≡ entryBegins (now (vs .entry)) ⌝ }
+{
+    if vs.len() < 4 {
+        return false;
+    }
+    let widths = [BITS_8, BITS_16, BITS_16];
+    if !fit(&widths, &vs[..3]) {
+        return false;
+    }
+    if vs[3] <= BITS_16 {
+        return true;
+    }
+    vs[3] == NOBODY
+}
+
+// Whom SERVED says.
+pub fn served_in(x: u64) -> Served
+    ensures { λ r. ⌜ (x ≤ bits16 → servedIn r ≡ servedOf x) × (x ≡ dash → servedIn r ≡ servedOf x) ⌝ }
+{
+    if BITS_16 < x {
+        return Served::Nobody;
+    }
+    Served::By(Client(word(x)))
+}
