@@ -157,4 +157,5 @@ def main(seed='3', count='651', stdin='crates/door_cases/stdin', stdout='crates/
             lines.write(told(g, record))
 
 
-main(*sys.argv[1:])
+if __name__ == '__main__':
+    main(*sys.argv[1:])

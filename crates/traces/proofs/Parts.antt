@@ -1,0 +1,58 @@
+-- However an input is cut into parts, its judgement is that of the whole; once that is decided, whatever parts follow.
+-- Assumes nothing.
+use Prim.Native.Nat.{ℕ}
+use mathlib.Core.Path.{_≡_, refl, sym, ap, _∙_}
+use mathlib.Core.Bool.{true}
+use mathlib.Core.List.{List, [], _∷_, _++_, append-assoc, flatten}
+use Rattle.tracing.specs.declared.Trace.{Trace}
+use Rattle.tracing.specs.Tracing.{noneRead, isDecided}
+use Rattle.traces.specs.declared.Held.{Held}
+use Rattle.traces.specs.Reading.{Read, readFrom, heldOf, noneHeld, partRead, partsRead}
+use Rattle.traces.specs.Judgement.{closed, closedOf, closedHeld, judgement}
+use Rattle.traces.proofs.Lines.{read-on, decided-read}
+use Rattle.traces.proofs.Room.{held-read, held-begun}
+use Rattle.traces.proofs.Closing.{closed-held, decided-closed}
+
+-- PART BEHIND PART
+
+-- one more part is held as if all before it were held
+part-read : (r : Read) (part : List ℕ) → partRead (heldOf r) part ≡ heldOf (readFrom (r .trace) (r .rest) part)
+part-read r part =
+    ap (λ (s : List ℕ). heldOf (readFrom (r .trace) s part)) (held-begun r) ∙ held-read (r .trace) (r .rest) part
+
+parts-read : (r : Read) (parts : List (List ℕ))
+    → partsRead (heldOf r) parts ≡ heldOf (readFrom (r .trace) (r .rest) (flatten parts))
+unfolding flatten
+parts-read r [] = refl
+parts-read r (part ∷ parts) =
+    ap (λ (h : Held). partsRead h parts) (part-read r part)
+    ∙ parts-read (readFrom (r .trace) (r .rest) part) parts
+    ∙ ap heldOf (sym (read-on (r .trace) (r .rest) part (flatten parts)))
+
+-- THE WHOLE INPUT
+
+-- Parts read one after the other, each from what was held after the one before, and judged at the end.
+pub whole-input : (parts : List (List ℕ)) → closedHeld (partsRead noneHeld parts) ≡ judgement (flatten parts)
+whole-input parts =
+    let start : Read = record { trace = noneRead; rest = [] } in
+    ap closedHeld (parts-read start parts) ∙ closed-held (readFrom noneRead [] (flatten parts))
+
+flatten-on : (s u : List (List ℕ)) → flatten (s ++ u) ≡ flatten s ++ flatten u
+unfolding flatten
+flatten-on [] u = refl
+flatten-on (x ∷ s) u = ap (λ (y : List ℕ). x ++ y) (flatten-on s u) ∙ sym (append-assoc x (flatten s) (flatten u))
+
+-- If the trace is decided after some first parts, they may be judged then, whatever parts follow.
+pub early : (parts others : List (List ℕ)) → isDecided (partsRead noneHeld parts .trace) ≡ true
+    → closedHeld (partsRead noneHeld parts) ≡ judgement (flatten (parts ++ others))
+early parts others d =
+    let start : Read = record { trace = noneRead; rest = [] } in
+    let r = readFrom noneRead [] (flatten parts) in
+    let more = flatten others in
+    let then = readFrom (r .trace) (r .rest) more in
+    let is : isDecided (r .trace) ≡ true = ap (λ (h : Held). isDecided (h .trace)) (sym (parts-read start parts)) ∙ d in
+    whole-input parts
+    ∙ decided-closed (r .trace) (r .rest) (then .rest) is
+    ∙ ap (λ (t : Trace). closed t (then .rest)) (sym (decided-read (r .trace) (r .rest) more is))
+    ∙ ap closedOf (sym (read-on noneRead [] (flatten parts) more))
+    ∙ ap judgement (sym (flatten-on parts others))
