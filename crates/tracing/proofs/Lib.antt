@@ -3,4 +3,4 @@ pub mod Entries
 pub mod Cases
 pub mod Lines
 pub mod Fitting
-pub mod Stages
+pub mod Taken

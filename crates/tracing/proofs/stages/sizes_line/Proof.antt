@@ -4,8 +4,8 @@ use mathlib.Core.Path.{sym, _∙_}
 use borrow.Author.Tests.{not-true, not-false}
 use Rattle.tracing.proofs.Fitting.{size-numbers}
 use borrow.Author.Needs.{needs}
-use Rattle.tracing.proofs.sizes_line.Statement.{statement}
-use Rattle.tracing.proofs.sizes_line.Tie as tie
+use Rattle.tracing.proofs.stages.sizes_line.Statement.{statement}
+use Rattle.tracing.proofs.stages.sizes_line.Tie as tie
 
 sizes-fit-requires : tie.Need-sizes-fit-requires
 sizes-fit-requires c κs = search needs

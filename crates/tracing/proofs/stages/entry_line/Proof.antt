@@ -12,8 +12,8 @@ use Rattle.trace_lines.specs.Lines.{bits32, allFit}
 use Rattle.tracing.specs.Shapes.{entryBegins}
 use Rattle.tracing.proofs.Fitting.{four-numbers}
 use borrow.Author.Needs.{needs}
-use Rattle.tracing.proofs.entry_line.Statement.{statement}
-use Rattle.tracing.proofs.entry_line.Tie as tie
+use Rattle.tracing.proofs.stages.entry_line.Statement.{statement}
+use Rattle.tracing.proofs.stages.entry_line.Tie as tie
 
 begins : (i : tie.Else1) → entryBegins (i .before .before .before .before .args .vs .now) ≡ true
 begins i = sym (i .before .entry-begins .ensures) ∙ not-false _ (i .if1 .left)

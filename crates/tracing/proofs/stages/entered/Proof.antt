@@ -5,10 +5,10 @@ use mathlib.Core.Path.{_≡_, _∙_, ap}
 use Rattle.checking.specs.Checking.{servedIn}
 use Rattle.tracing.specs.Shapes.{servedOf}
 use Rattle.tracing.proofs.Fitting.{entry-numbers, served-cases}
-use Rattle.tracing.proofs.Stages.{entered-is}
+use Rattle.tracing.proofs.Taken.{entered-is}
 use borrow.Author.Needs.{needs}
-use Rattle.tracing.proofs.entered.Statement.{statement}
-use Rattle.tracing.proofs.entered.Tie as tie
+use Rattle.tracing.proofs.stages.entered.Statement.{statement}
+use Rattle.tracing.proofs.stages.entered.Tie as tie
 
 value-at-requires : tie.Need-value-at-requires
 value-at-requires c κs = search needs

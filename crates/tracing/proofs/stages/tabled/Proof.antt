@@ -2,10 +2,10 @@
 -- Assumes nothing.
 use native.Mathlib.Omega.{arith}
 use borrow.Author.Tests.{lt-ltb, le-ltb}
-use Rattle.tracing.proofs.Stages.{rows-left, rows-done}
+use Rattle.tracing.proofs.Taken.{rows-left, rows-done}
 use borrow.Author.Needs.{needs}
-use Rattle.tracing.proofs.tabled.Statement.{statement}
-use Rattle.tracing.proofs.tabled.Tie as tie
+use Rattle.tracing.proofs.stages.tabled.Statement.{statement}
+use Rattle.tracing.proofs.stages.tabled.Tie as tie
 
 wide-requires : tie.Need-wide-requires
 wide-requires c κs = search needs

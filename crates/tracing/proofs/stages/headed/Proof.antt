@@ -1,10 +1,10 @@
 -- `tracing::headed` meets its contract.
 -- Assumes nothing.
 use mathlib.Core.Path.{_∙_}
-use Rattle.tracing.proofs.Stages.{headed-is}
+use Rattle.tracing.proofs.Taken.{headed-is}
 use borrow.Author.Needs.{needs}
-use Rattle.tracing.proofs.headed.Statement.{statement}
-use Rattle.tracing.proofs.headed.Tie as tie
+use Rattle.tracing.proofs.stages.headed.Statement.{statement}
+use Rattle.tracing.proofs.stages.headed.Tie as tie
 
 head-setup-requires : tie.Need-head-setup-requires
 head-setup-requires c κs = search needs

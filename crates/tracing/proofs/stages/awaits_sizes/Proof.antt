@@ -4,8 +4,8 @@ use mathlib.Core.Path.{sym, _∙_}
 use borrow.Author.Tests.{ne-eqb}
 use Rattle.rules.specs.Refusals.{badSize}
 use borrow.Author.Needs.{needs}
-use Rattle.tracing.proofs.awaits_sizes.Statement.{statement}
-use Rattle.tracing.proofs.awaits_sizes.Tie as tie
+use Rattle.tracing.proofs.stages.awaits_sizes.Statement.{statement}
+use Rattle.tracing.proofs.stages.awaits_sizes.Tie as tie
 
 enum-known-v : tie.Need-enum-known-v
 enum-known-v c = search needs

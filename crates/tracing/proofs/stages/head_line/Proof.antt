@@ -4,8 +4,8 @@ use mathlib.Core.Path.{sym, _∙_}
 use borrow.Author.Tests.{not-true, not-false}
 use Rattle.tracing.proofs.Fitting.{head-numbers}
 use borrow.Author.Needs.{needs}
-use Rattle.tracing.proofs.head_line.Statement.{statement}
-use Rattle.tracing.proofs.head_line.Tie as tie
+use Rattle.tracing.proofs.stages.head_line.Statement.{statement}
+use Rattle.tracing.proofs.stages.head_line.Tie as tie
 
 head-fits-requires : tie.Need-head-fits-requires
 head-fits-requires c κs = search needs

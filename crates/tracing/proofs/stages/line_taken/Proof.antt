@@ -1,8 +1,8 @@
 -- `tracing::line_taken` meets its contract, by the stage.
 -- Assumes nothing.
 use borrow.Author.Needs.{needs}
-use Rattle.tracing.proofs.line_taken.Statement.{statement}
-use Rattle.tracing.proofs.line_taken.Tie as tie
+use Rattle.tracing.proofs.stages.line_taken.Statement.{statement}
+use Rattle.tracing.proofs.stages.line_taken.Tie as tie
 
 enum-told : tie.Need-enum-told
 enum-told c = search needs

@@ -4,8 +4,8 @@ use mathlib.Core.Path.{sym, _∙_}
 use borrow.Author.Tests.{not-true, not-false}
 use Rattle.tracing.proofs.Fitting.{row-numbers}
 use borrow.Author.Needs.{needs}
-use Rattle.tracing.proofs.row_line.Statement.{statement}
-use Rattle.tracing.proofs.row_line.Tie as tie
+use Rattle.tracing.proofs.stages.row_line.Statement.{statement}
+use Rattle.tracing.proofs.stages.row_line.Tie as tie
 
 row-fits-requires : tie.Need-row-fits-requires
 row-fits-requires c κs = search needs
