@@ -10,14 +10,16 @@ use Rattle.gate.specs.declared.Gate.{Gate}
 use Rattle.checking.specs.declared.Part.the-variants as part
 use Rattle.checking.specs.declared.Verdict.{Verdict}
 use Rattle.checking.specs.declared.Verdict.the-variants as verdict
+use Rattle.trace_lines.specs.Lines.{valuesOf}
 use Rattle.tracing.specs.declared.Stage.{Stage}
 use Rattle.tracing.specs.declared.Stage.the-variants as stage
 use Rattle.tracing.specs.declared.Trace.{Trace}
-use Rattle.tracing.specs.Tracing.{trace, taken}
+use Rattle.tracing.specs.Shapes.{headFits}
+use Rattle.tracing.specs.Tracing.{trace, noneRead, taken}
 use Rattle.traces.specs.declared.Judgement.{Judgement}
 use Rattle.traces.specs.declared.Judgement.the-variants.{Malformed, Refused, Differs, Accepted}
 use Rattle.traces.specs.Reading.{readFrom, heldOf}
-use Rattle.traces.specs.Judgement.{closed, judgementText}
+use Rattle.traces.specs.Judgement.{closed, judgement, judgementText}
 
 -- INPUTS
 
@@ -86,6 +88,15 @@ module _ (s : Setup) (g : Gate) where
       × Closes (after stage.Entries 9 3 verdict.Agrees) [] (Accepted 3)
       × Closes (after stage.Entries 9 3 verdict.Agrees) (69 ∷ []) (Malformed 10)
   agree = (refl, refl, refl)
+
+-- a whole input: nothing, a byte without LF, a blank line, and two of these
+pub whole :
+    (judgement [] ≡ Malformed 1)
+    × (judgement (83 ∷ []) ≡ Malformed 1)
+    × (judgement (10 ∷ []) ≡ Malformed 1)
+    × (judgement (10 ∷ 10 ∷ []) ≡ Malformed 1)
+unfolding noneRead taken valuesOf headFits
+whole = (refl, refl, refl, refl)
 
 -- LINES
 

@@ -5,7 +5,9 @@ use mathlib.Core.Path.{_≡_, refl}
 use mathlib.Core.Bool.{true, false}
 use mathlib.Core.List.{List, [], _∷_, _++_}
 use mathlib.Core.Option.{some, none}
+use lib.ListN.{take}
 use Rattle.rules.specs.Setup.{setupAnswer}
+use Rattle.gate.specs.declared.Setup.{Setup}
 use Rattle.gate.specs.Shown.{table}
 use Rattle.text.specs.Text.{space, decimal}
 use Rattle.numerals.specs.Plain.{plainOf}
@@ -15,7 +17,8 @@ use Rattle.checking.specs.Checking.{begun}
 use Rattle.trace_lines.specs.Lines.{dash, valuesOf, fitIn, allFit}
 use Rattle.tracing.specs.declared.Stage.{Stage}
 use Rattle.tracing.specs.declared.Stage.the-variants.{Head, Sizes, Rows, Entries, Malformed}
-use Rattle.tracing.specs.Shapes.{headFits, headSetup, withSizes, withRow, rowFits, entryFits, seenOf}
+use Rattle.tracing.specs.Shapes.{headFits, headSetup, withSizes, withRow, rowFits, entryFits, eventIn}
+use Rattle.tracing.specs.Shapes.{seenOf}
 use Rattle.tracing.specs.Tracing.{noneRead, taken, takenAll}
 
 -- THE NUMBERS OF EACH KIND OF LINE
@@ -68,6 +71,41 @@ pub rows :
 unfolding fitIn
 rows = (refl, refl, refl, refl, refl, refl)
 
+-- WHAT THEY SAY
+
+-- K, N, L and W each in its place, and no W in version 1
+pub said-heads :
+    (headSetup (2 ∷ 3 ∷ 4 ∷ 5 ∷ 6 ∷ []) .clusters ≡ 3)
+    × (headSetup (2 ∷ 3 ∷ 4 ∷ 5 ∷ 6 ∷ []) .clients ≡ 4)
+    × (headSetup (2 ∷ 3 ∷ 4 ∷ 5 ∷ 6 ∷ []) .cap ≡ 5)
+    × (headSetup (2 ∷ 3 ∷ 4 ∷ 5 ∷ 6 ∷ []) .tidy ≡ 6)
+    × (headSetup (1 ∷ 3 ∷ 4 ∷ 5 ∷ []) .tidy ≡ 0)
+unfolding headSetup
+said-heads = (refl, refl, refl, refl, refl)
+
+-- a setup of two clusters without sizes and rows
+abbrev bare : Setup
+bare = headSetup (1 ∷ 2 ∷ 3 ∷ 10 ∷ [])
+
+-- sizes in their order, and the rest as it was
+pub said-sizes :
+    (take 3 (withSizes (7 ∷ 8 ∷ []) bare .sizes) ≡ 7 ∷ 8 ∷ 0 ∷ [])
+    × (withSizes (7 ∷ 8 ∷ []) bare .clients ≡ 3)
+    × (withSizes (7 ∷ 8 ∷ []) bare .cap ≡ 10)
+unfolding headSetup withSizes table
+said-sizes = (refl, refl, refl)
+
+-- the row of client 1: kind, cluster and priority each in its column
+pub said-rows :
+    (take 3 (withRow 1 (1 ∷ 2 ∷ 300 ∷ []) bare .kinds) ≡ 0 ∷ 1 ∷ 0 ∷ [])
+    × (take 3 (withRow 1 (1 ∷ 2 ∷ 300 ∷ []) bare .homes) ≡ 0 ∷ 2 ∷ 0 ∷ [])
+    × (take 3 (withRow 1 (1 ∷ 2 ∷ 300 ∷ []) bare .priorities) ≡ 0 ∷ 300 ∷ 0 ∷ [])
+unfolding headSetup withRow
+said-rows = (refl, refl, refl)
+
+pub said-event : eventIn (4 ∷ 9 ∷ 0 ∷ 1 ∷ []) ≡ record { code = 4; argument = 9 }
+said-event = refl
+
 -- LINE BY LINE
 
 -- a letter, and numbers behind it
@@ -83,6 +121,9 @@ Z ns = 90 ∷ numbers ns
 
 abbrev C : List ℕ → List ℕ
 C ns = 67 ∷ numbers ns
+
+abbrev E : List ℕ → List ℕ
+E ns = 69 ∷ numbers ns
 
 pub record Shown : Type 0 where
   pub stage : Stage
@@ -121,3 +162,21 @@ pub setups :
 unfolding noneRead taken headFits headSetup withSizes withRow valuesOf fitIn plainOf decimal begun setupAnswer table
 setups =
     (refl, refl, refl, refl, refl, refl, refl, refl, refl, refl, refl, refl, refl, refl, refl)
+
+-- An entry is a line more, and leaves the stage; any other line, or one with too few numbers, is malformed there. Only
+-- stage and lines are looked at: what an entry makes of the checker, `checking` computes.
+abbrev stageAfter : List (List ℕ) → Stage
+stageAfter ls = takenAll noneRead (S (1 ∷ 1 ∷ 0 ∷ 10 ∷ []) ∷ Z (1 ∷ []) ∷ ls) .stage
+
+abbrev linesAfter : List (List ℕ) → ℕ
+linesAfter ls = takenAll noneRead (S (1 ∷ 1 ∷ 0 ∷ 10 ∷ []) ∷ Z (1 ∷ []) ∷ ls) .lines
+
+pub entry-lines :
+    (stageAfter (E (3 ∷ 0 ∷ 12 ∷ 0 ∷ []) ∷ []) ≡ Entries)
+    × (linesAfter (E (3 ∷ 0 ∷ 12 ∷ 0 ∷ []) ∷ []) ≡ 3)
+    × (stageAfter ((E (3 ∷ 0 ∷ 12 ∷ []) ++ space ∷ 45 ∷ []) ∷ []) ≡ Entries)
+    × (stageAfter (E (3 ∷ 0 ∷ 12 ∷ []) ∷ []) ≡ Malformed)
+    × (stageAfter (C (3 ∷ 0 ∷ 12 ∷ 0 ∷ []) ∷ []) ≡ Malformed)
+    × (linesAfter (C (3 ∷ 0 ∷ 12 ∷ 0 ∷ []) ∷ []) ≡ 3)
+unfolding noneRead taken headFits headSetup withSizes valuesOf fitIn allFit plainOf decimal begun setupAnswer table
+entry-lines = (refl, refl, refl, refl, refl, refl)
