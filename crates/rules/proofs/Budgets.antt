@@ -12,15 +12,15 @@ use Rattle.rules.specs.Setup.{Setup, Accepted, realTime, span}
 use Rattle.rules.specs.Rank.{outranks}
 use Rattle.rules.specs.Queues.{waits}
 use Rattle.rules.specs.Events.{Event, invoke, run, reply, abort, ready, charged}
-use Rattle.rules.specs.Step.{answer}
+use Rattle.rules.specs.Step.{answer, ownRanks}
 use Rattle.rules.specs.History.{after, begins, owes, owed, owesInAll, owedInAll}
 use Rattle.rules.specs.History.{callsAgain, calls, ends, waiting}
 use Rattle.rules.specs.Demands.{worst}
 use Rattle.rules.proofs.Tests.{by-test, clash}
-use Rattle.rules.proofs.Ranking.{by-priority}
+use Rattle.rules.proofs.Ranking.{ranking-of}
 use Rattle.rules.proofs.Run.{charged-facts}
-use Rattle.rules.proofs.Bounded.{bounded-as-asked-by}
-use Rattle.rules.proofs.Waits.{waiting-waits}
+use Rattle.rules.proofs.Bounded.{bounded-by}
+use Rattle.rules.proofs.Waiting.{waiting-waits}
 
 module _ (u : Setup) (ok : Accepted u) (c : ℕ) (real : realTime u c ≡ true) where
   -- who was never accepted with an invoke does not wait ..
@@ -47,7 +47,7 @@ module _ (u : Setup) (ok : Accepted u) (c : ℕ) (real : realTime u c ≡ true) 
   W = worst (u .size (u .cluster c)) (u .clusters) (span u)
 
   within : (h : List Event) → owed u c h ≤ W
-  within h = bounded-as-asked-by u ok (by-priority u) h c real
+  within h = omega (arith, bounded-by u ok (ownRanks u) (ranking-of u ok) h c real)
 
   -- all waits but the latest took at most W each
   record Covered (n total now : ℕ) : Type 0 where
@@ -56,9 +56,10 @@ module _ (u : Setup) (ok : Accepted u) (c : ℕ) (real : realTime u c ≡ true) 
 
   event-covered : (h : List Event) (e : Event) (n total now : ℕ) → now ≤ W
       → (n ≡ 0 → charged u (outranks u (after u h)) (after u h) c ≡ false) → Covered n total now
-      → Covered (callsAgain u c (after u h) e n) (owesInAll u c (after u h) e total) (owes u c (after u h) e now)
-  event-covered h (invoke d) n total now b f i =
-      by-test (begins u c (invoke d))
+      → Covered (callsAgain u c (after u h) e n) (owesInAll u c (outranks u (after u h)) (after u h) e total)
+      (owes u c (outranks u (after u h)) (after u h) e now)
+  event-covered h (invoke d o) n total now b f i =
+      by-test (begins u c (invoke d o))
       (λ q. rw q (record {
         none = λ z. absurd (omega arith);
         some = λ z. by-test (eqb n 0)

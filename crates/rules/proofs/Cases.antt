@@ -13,7 +13,7 @@ use Rattle.rules.specs.State.{State, front}
 use Rattle.rules.specs.Rank.{outranks}
 use Rattle.rules.specs.Queues.{refill, queue, pick}
 use Rattle.rules.specs.Events.{run, invoked, ran, replied, aborted, readied}
-use Rattle.rules.specs.Step.{answer, next, step}
+use Rattle.rules.specs.Step.{answerBy, movedBy, nextBy, stepBy, answer}
 use Rattle.rules.specs.Records.{Record, eventOf}
 use Rattle.rules.specs.Replay.{replayFrom, entriesFrom}
 use Rattle.rules.specs.History.{owed, struck}
@@ -95,7 +95,7 @@ cases =
     []
 
 pub cases-hold : map gotAt cases ≡ map wantedAt cases
-unfolding cases setupAnswer quote entriesFrom replayFrom eventOf answer next step
+unfolding cases setupAnswer quote entriesFrom replayFrom eventOf answerBy nextBy movedBy stepBy
     outranks refill queue pick invoked ran replied aborted readied
 cases-hold = refl
 
@@ -108,7 +108,7 @@ log-accepted = record { no-refusal = refl; sixteen-bits = omega arith; tidy-bits
 
 -- By the sum over the history, client 1 is charged 40, which equals (2 + 2)10 ..
 pub owed-log : owed logSetup 1 (past logSetup logRecords) ≡ 40
-unfolding eventOf answer next step outranks refill queue pick invoked ran replied aborted readied
+unfolding eventOf answerBy nextBy movedBy stepBy outranks refill queue pick invoked ran replied aborted readied
 owed-log = refl
 
 pub worst-log : worst (logSetup .size 0) (logSetup .clusters) (span logSetup) ≡ 40
@@ -120,7 +120,7 @@ worstUnstruck-log = refl
 
 -- .. and an abort did hit the request of its cluster in service while it waited.
 pub struck-log : struck logSetup 1 (past logSetup logRecords) ≡ true
-unfolding eventOf answer next step outranks refill queue pick invoked ran replied aborted readied
+unfolding eventOf answerBy nextBy movedBy stepBy outranks refill queue pick invoked ran replied aborted readied
 struck-log = refl
 
 -- WITHOUT AN ABORT
@@ -131,12 +131,12 @@ abbrev pub quietRecords : List Record
 quietRecords = invokes 3 ∷ invokes 2 ∷ invokes 1 ∷ runs 10 ∷ replies ∷ runs 10 ∷ replies ∷ runs 10 ∷ []
 
 pub struck-quiet : struck logSetup 1 (past logSetup quietRecords) ≡ false
-unfolding eventOf answer next step outranks refill queue pick invoked ran replied aborted readied
+unfolding eventOf answerBy nextBy movedBy stepBy outranks refill queue pick invoked ran replied aborted readied
 struck-quiet = refl
 
 -- Its charge is 30, so that the smaller bound is reached too.
 pub owed-quiet : owed logSetup 1 (past logSetup quietRecords) ≡ 30
-unfolding eventOf answer next step outranks refill queue pick invoked ran replied aborted readied
+unfolding eventOf answerBy nextBy movedBy stepBy outranks refill queue pick invoked ran replied aborted readied
 owed-quiet = refl
 
 -- AT THE CHARGE LIMIT
@@ -152,13 +152,14 @@ nearLimit = record {
   server = front 0;
   units = 0;
   charge = λ (c : ℕ). cond (eqb c 0) 33554430 0;
+  deadline = λ (c : ℕ). 0;
 }
 
 pub at-limit : answer logSetup nearLimit (run 1) ≡ 0
-unfolding answer outranks
+unfolding answerBy outranks
 at-limit = refl
 
 -- one unit more is 19
 pub past-limit : answer logSetup nearLimit (run 2) ≡ 19
-unfolding answer outranks
+unfolding answerBy outranks
 past-limit = refl

@@ -14,11 +14,12 @@ use Rattle.rules.specs.Setup.{Setup, realTime}
 use Rattle.rules.specs.State.{State, Server, idle, front, best, spent, tidying, fresh}
 use Rattle.rules.specs.State.{isFront, isServing, isTidying}
 use Rattle.rules.specs.Rank.{Rank, outranks}
+use Rattle.rules.specs.Changes.{withDeadline}
 use Rattle.rules.specs.Queues.{inRoom, enter, refill, queue, start, pick, pickIdle}
 use Rattle.rules.specs.Events.{Event, invoke, run, reply, abort, ready}
 use Rattle.rules.specs.Events.{behind, joined, roomed, arrive, invoked, ran, gone, ended, replied}
 use Rattle.rules.specs.Events.{left, spend, unqueue, aborted, readied}
-use Rattle.rules.specs.Step.{answer, next, step}
+use Rattle.rules.specs.Step.{answerBy, movedBy, nextBy, stepBy, answer, next, step}
 use Rattle.rules.specs.Records.{Record, eventOf, replyReady, saysFirst, saysIn, heardOf, stepOf}
 use Rattle.rules.specs.History.{after, said}
 use Rattle.rules.proofs.Tests.{by-test, clash}
@@ -106,34 +107,50 @@ module _ (u : Setup) where
       picked (spent d) t k = k
       picked tidying t k = k
 
-  reply-ends : (s : State) → answer u s reply ≡ accepted → step u s reply ≡ replied u (outranks u s) s
-  unfolding step next
+  reply-ends : (s : State) → answer u s reply ≡ accepted → step u s reply ≡ next u s reply
+  unfolding stepBy
   reply-ends s a = rw a
 
+  -- a pick leaves the deadlines
+  pick-dated : (t : State) → withDeadline (t .deadline) (pick t) ≡ pick t
+  unfolding pick
+  pick-dated t = go (t .global) (t .background)
+    where
+      go : (g b : List ℕ) → withDeadline (t .deadline) (start t g b) ≡ start t g b
+      go [] [] = refl
+      go [] (x ∷ b) = refl
+      go (x ∷ g) b = refl
+
   ready-picks : (t : State) → t .server ≡ tidying → step u t ready ≡ pick t
-  unfolding step answer next readied
-  ready-picks t e = rw e
+  unfolding stepBy answerBy nextBy movedBy readied
+  ready-picks t e =
+      let taken : answer u t ready ≡ accepted = rw e in
+      let z : eqb (answer u t ready) accepted ≡ true = rw taken in
+      rw z (pick-dated t)
+
+  replied-tidies : (s : State) → answer u s reply ≡ accepted → next u s reply .server ≡ tidying
+  unfolding nextBy movedBy
+  replied-tidies s a = replied-server (outranks u s) s (reply-accepted u (outranks u s) s a)
 
   -- RECORDS
 
   -- an accepted reply and its pick are one step, as document 01 has it
   pub reply-picks : (s : State) → answer u s reply ≡ accepted
-      → stepOf u s replyReady ≡ pick (replied u (outranks u s) s)
+      → stepOf u s replyReady ≡ pick (next u s reply)
   reply-picks s a =
-      rw a (ap (λ t. step u t ready) (reply-ends s a)
-      ∙ ready-picks (replied u (outranks u s) s) (replied-server (outranks u s) s (reply-accepted u s a)))
+      rw a (ap (λ t. step u t ready) (reply-ends s a) ∙ ready-picks (next u s reply) (replied-tidies s a))
 
   event-settled : (s : State) (e : Event) → Settled s → Settled (stepOf u s (saysFirst e))
-  unfolding step next ran
-  event-settled s (invoke c) h =
-      by-test (eqb (answer u s (invoke c)) accepted) (λ q. rw q (invoked-settled c s h)) (λ q. rw q h)
+  unfolding stepBy nextBy movedBy ran
+  event-settled s (invoke c o) h =
+      by-test (eqb (answer u s (invoke c o)) accepted) (λ q. rw q (invoked-settled c s h)) (λ q. rw q h)
   event-settled s (run n) h =
       by-test (eqb (answer u s (run n)) accepted) (λ q. rw q h) (λ q. rw q h)
   event-settled s reply h =
       by-test (eqb (answer u s reply) accepted)
       (λ q.
       ap (λ t. isTidying (t .server)) (reply-picks s (eqb-true (answer u s reply) accepted q))
-      ∙ pick-settled (replied u (outranks u s) s))
+      ∙ pick-settled (next u s reply))
       (λ q.
       ap (λ t. isTidying (t .server)) (refused-record u s replyReady (eqb-false (answer u s reply) accepted q))
       ∙ h)
@@ -147,8 +164,9 @@ module _ (u : Setup) where
   record-settled s (some e) h = event-settled s e h
 
   -- After any records of such a log the server isn't tidying, so W bounds no run.
-  pub never-tidying : (rs : List Record) → Settled (after u (said u (map (heardOf 1) rs)))
-  never-tidying [] = refl
-  never-tidying (r ∷ rs) =
-      ap (λ t. isTidying (t .server)) (said-step u fresh (said u (map (heardOf 1) rs)) (heardOf 1 r))
-      ∙ record-settled (after u (said u (map (heardOf 1) rs))) (eventOf r) (never-tidying rs)
+  pub never-tidying : (timed : Bool) (rs : List Record) → Settled (after u (said u (map (heardOf 1 timed) rs)))
+  never-tidying timed [] = refl
+  never-tidying timed (r ∷ rs) =
+      let past = said u (map (heardOf 1 timed) rs) in
+      ap (λ t. isTidying (t .server)) (said-step u fresh past (heardOf 1 timed r))
+      ∙ record-settled (after u past) (eventOf timed r) (never-tidying timed rs)

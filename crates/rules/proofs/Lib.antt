@@ -7,6 +7,7 @@ pub mod TellRefusal
 pub mod TellSound
 pub mod TellHistory
 pub mod TellTidy
+pub mod TellDeadline
 pub mod TellLimits
 pub mod TellBounds
 pub mod TellBudgets
@@ -23,7 +24,7 @@ pub mod Setups
 pub mod Answers
 -- rank and refill
 pub mod Highest
-pub mod Ranking
+pub mod ByNumber
 pub mod Refill
 -- the order of service, and what a client may still be charged
 pub mod Due
@@ -50,11 +51,16 @@ pub mod PlacedInvoke
 -- every event and every history
 pub mod Charge
 pub mod Struck
+pub mod Waits
+pub mod Dated
 pub mod SoundStates
 pub mod Steps
 pub mod Reached
-pub mod Limit
+-- any ranks, and the two kinds
+pub mod Ranking
+pub mod Keeping
 pub mod Bounded
+pub mod Limit
 -- logs
 pub mod Replays
 pub mod Records
@@ -62,6 +68,6 @@ pub mod Said
 pub mod FirstVersion
 pub mod Traces
 -- all waits of a client, and the quote
-pub mod Waits
+pub mod Waiting
 pub mod Budgets
 pub mod Quotes

@@ -10,22 +10,23 @@ use lib.Dec.{eqb, ltb, leb}
 use borrow.Author.Tests.{ltb-false, le-ltb}
 use Rattle.rules.specs.Limits.{maxCharge}
 use Rattle.rules.specs.Refusals.{accepted, noClient, waitsAlready, serverIdle, runOfNone, runPastCap, notTidying}
-use Rattle.rules.specs.Refusals.{notWaiting, bestEffort, spentAlready, unsound}
+use Rattle.rules.specs.Refusals.{notWaiting, bestEffort, spentAlready, unknownRecord, unsound}
 use Rattle.rules.specs.Setup.{Setup, Accepted, realTime, span}
 use Rattle.rules.specs.State.{State, isIdle, isSpent, isServing, isTidying, capOf}
 use Rattle.rules.specs.Rank.{outranks}
 use Rattle.rules.specs.Queues.{waits}
 use Rattle.rules.specs.Events.{Event, invoke, run, reply, abort, ready, charged, ran}
-use Rattle.rules.specs.Step.{present, overcharges, answer}
+use Rattle.rules.specs.Step.{fitForm, present, overcharges, answerBy, answer, ownRanks}
 use Rattle.rules.specs.History.{after, struckInRoom}
 use Rattle.rules.specs.Demands.{worst}
 use Rattle.rules.proofs.Tests.{by-test, not-given}
 use Rattle.rules.proofs.Counts.{some-not}
-use Rattle.rules.proofs.Ranking.{by-priority}
+use Rattle.rules.proofs.Ranking.{ranking-of}
 use Rattle.rules.proofs.Setups.{allowed}
 use Rattle.rules.proofs.Kept.{kept-worst}
 use Rattle.rules.proofs.Run.{charged-facts, run-kept}
-use Rattle.rules.proofs.Reached.{reached}
+use Rattle.rules.proofs.Reached.{own-reached}
+use Rattle.rules.proofs.Keeping.{kept}
 
 module _ (u : Setup) (a : Accepted u) where
   -- (2 + 2mK)(L + W) is at most (2 + 2 * 8 * 8) * 131,070
@@ -39,7 +40,7 @@ module _ (u : Setup) (a : Accepted u) where
       omega arith
 
   never-over : (h : List Event) (n : ℕ) → after u h .units + n ≤ capOf u (after u h .server)
-      → overcharges u (after u h) n ≡ false
+      → overcharges u (outranks u (after u h)) (after u h) n ≡ false
   unfolding ran
   never-over h n fits =
       some-not (λ c. charged u (outranks u s) s c && ltb maxCharge (s .charge c + n)) (u .clients) (λ c k.
@@ -52,23 +53,25 @@ module _ (u : Setup) (a : Accepted u) where
 
       small : (c : ℕ) → c < u .clients → charged u (outranks u s) s c ≡ true → s .charge c + n ≤ maxCharge
       small c k e =
-          let i = reached u a (by-priority u) h in
+          let i = own-reached u a h in
           let real = charged-facts u (outranks u s) s c e .real in
-          let now = run-kept u (outranks u s) s n fits c (struckInRoom u c h) (i .in-order) (i .kept c real) in
+          let now = run-kept u (outranks u s) s n fits c (struckInRoom u c h) (i .in-order)
+          (kept u a (ownRanks u) (ranking-of u a) h c real) in
           let w : s .charge c + n ≤ worst (u .size (u .cluster c)) (u .clusters) (span u) =
           rw e at (kept-worst u (outranks u s) (ran u (outranks u s) n s) c (struckInRoom u c h) now) in
           omega (arith, worst-small c k)
 
   pub never-unsound : (h : List Event) (e : Event) → answer u (after u h) e ≡ unsound → ⊥
-  unfolding answer
+  unfolding answerBy
   never-unsound h = go
     where
       s : State
       s = after u h
 
       go : (o : Event) → answer u s o ≡ unsound → ⊥
-      go (invoke c) e =
-          let k = not-given (leb (u .clients) c) noClient _ unsound (λ q. omega arith) e in
+      go (invoke c o) e =
+          let f = not-given (not (fitForm (u .timed) o)) unknownRecord _ unsound (λ q. omega arith) e in
+          let k = not-given (leb (u .clients) c) noClient _ unsound (λ q. omega arith) (f .1) in
           let w = not-given (present u s c) waitsAlready accepted unsound (λ q. omega arith) (k .1) in
           omega (arith, w .1)
       go (run n) e =

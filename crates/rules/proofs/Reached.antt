@@ -1,34 +1,35 @@
--- What holds of every state that a fresh gate of an accepted setup comes to, for any ranking.
+-- What holds of every state that a fresh gate of an accepted setup comes to, by any ranks that are a strict total order
+-- at each event.
 -- Assumes nothing.
 use Prim.Native.Nat.{ℕ}
 use mathlib.Core.Path.{_≡_, refl}
-use mathlib.Core.Bool.{Bool, true, false}
 use mathlib.Core.List.{List, [], _∷_}
 use native.Mathlib.Omega.{arith}
 use lib.Dec.{eqb}
 use borrow.Author.Tests.{eqb-true}
 use Rattle.rules.specs.Refusals.{accepted}
-use Rattle.rules.specs.Setup.{Setup, Accepted, Trimmed, realTime}
+use Rattle.rules.specs.Setup.{Setup, Accepted, Trimmed}
 use Rattle.rules.specs.State.{State, fresh}
-use Rattle.rules.specs.Rank.{outranks}
-use Rattle.rules.specs.Sound.{Sound}
+use Rattle.rules.specs.Sound.{Sound, DeadlineSound}
+use Rattle.rules.specs.Rank.{Rank}
 use Rattle.rules.specs.Events.{Event}
-use Rattle.rules.specs.Step.{answer, step}
-use Rattle.rules.specs.History.{after, changed, strikesInRoom, passedIn, struckInRoom}
+use Rattle.rules.specs.Step.{answerBy, stepBy, Ranks, ownRanks}
+use Rattle.rules.specs.History.{after, afterBy}
 use Rattle.rules.proofs.Tests.{by-test, clash}
-use Rattle.rules.proofs.Ranking.{Ranking}
+use Rattle.rules.proofs.Highest.{StrictTotal}
+use Rattle.rules.proofs.ByNumber.{own-order}
 use Rattle.rules.proofs.Setups.{valid}
 use Rattle.rules.proofs.InOrder.{InOrder}
-use Rattle.rules.proofs.Kept.{Kept, begun}
 use Rattle.rules.proofs.Goes.{differ}
 use Rattle.rules.proofs.Placed.{Placed}
 use Rattle.rules.proofs.SoundStates.{sound-is}
-use Rattle.rules.proofs.Steps.{next-in-order, next-placed, next-kept}
+use Rattle.rules.proofs.Steps.{next-in-order, next-placed}
+use Rattle.rules.proofs.Dated.{next-dated}
 
 module _ (u : Setup) where
   -- THE FRESH GATE
 
-  fresh-in-order : InOrder u fresh
+  pub fresh-in-order : InOrder u fresh
   fresh-in-order =
       record {
         lined = record {
@@ -61,38 +62,39 @@ module _ (u : Setup) where
         served = refl;
       }
 
+  fresh-dated : (c : ℕ) → DeadlineSound u fresh c
+  fresh-dated c = record { bits = omega arith; away = λ h. refl; untimed = λ h. refl }
+
   -- EVERY HISTORY
 
-  -- `f x`: an abort hit the request in service of x's cluster while x was in the waiting room, in its latest wait
-  pub record Holds (s : State) (f : ℕ → Bool) : Type 0 where
+  pub record Stands (s : State) : Type 0 where
     pub in-order : InOrder u s
     pub placed : Placed u s
-    pub kept : (x : ℕ) → realTime u x ≡ true → Kept u (outranks u s) s x (f x)
+    pub dated : (c : ℕ) → DeadlineSound u s c
 
-  module _ (a : Accepted u) (ranking : Ranking u) where
-    event-holds : (s : State) (f : ℕ → Bool) → Holds s f → (e : Event)
-        → Holds (step u s e) (λ x. changed u (passedIn u (strikesInRoom u) x) s e (f x))
-    unfolding step
-    event-holds s f i e =
-        by-test (eqb (answer u s e) accepted)
+  module _ (a : Accepted u) where
+    event-stands : (rank : Rank) → StrictTotal rank → (s : State) → Stands s → (e : Event) → Stands (stepBy u rank s e)
+    unfolding stepBy
+    event-stands rank order s i e =
+        by-test (eqb (answerBy u rank s e) accepted)
         (λ q.
-        let ok = eqb-true (answer u s e) accepted q in
+        let ok = eqb-true (answerBy u rank s e) accepted q in
         rw q (record {
-          in-order = next-in-order u (valid u a) ranking s (i .in-order) (i .placed) e ok;
-          placed = next-placed u (valid u a) ranking s (i .in-order) (i .placed) e ok;
-          kept = λ x r.
-              next-kept u (valid u a) ranking s (i .in-order) (i .placed) e ok x r (f x) (i .kept x r);
+          in-order = next-in-order u (valid u a) rank order s (i .in-order) (i .placed) e ok;
+          placed = next-placed u (valid u a) rank order s (i .in-order) (i .placed) e ok;
+          dated = next-dated u rank order s (i .in-order) (i .placed) (i .dated) e ok;
         }))
         (λ q. rw q i)
 
-    pub reached : (h : List Event) → Holds (after u h) (λ x. struckInRoom u x h)
-    reached [] =
-        record {
-          in-order = fresh-in-order;
-          placed = fresh-placed;
-          kept = λ x r. begun u (outranks u fresh) fresh x false fresh-in-order refl;
-        }
-    reached (e ∷ h) = event-holds (after u h) (λ x. struckInRoom u x h) (reached h) e
+    pub reached : (ranks : Ranks) → ((h : List Event) → StrictTotal (ranks h (afterBy u ranks h)))
+        → (h : List Event) → Stands (afterBy u ranks h)
+    reached ranks order [] = record { in-order = fresh-in-order; placed = fresh-placed; dated = fresh-dated }
+    reached ranks order (e ∷ h) =
+        event-stands (ranks h (afterBy u ranks h)) (order h) (afterBy u ranks h) (reached ranks order h) e
+
+    pub own-reached : (h : List Event) → Stands (after u h)
+    own-reached = reached (ownRanks u) (λ h. own-order u (after u h))
 
     pub reached-sound : Trimmed u → (h : List Event) → Sound u (after u h)
-    reached-sound t h = let i = reached h in sound-is u (after u h) a t (i .in-order) (i .placed)
+    reached-sound t h =
+        let i = own-reached h in sound-is u (after u h) a t (i .in-order) (i .placed) (i .dated)

@@ -9,7 +9,7 @@ use Rattle.rules.specs.Refusals.{accepted}
 use Rattle.rules.specs.Setup.{Setup}
 use Rattle.rules.specs.State.{State}
 use Rattle.rules.specs.Events.{Event, reply, ready}
-use Rattle.rules.specs.Step.{answer, step, afterFrom}
+use Rattle.rules.specs.Step.{stepBy, answer, step, afterFrom}
 use Rattle.rules.specs.Records.{Heard, known, replyReady, unknown, answerOf, saidOf, stepOf}
 
 module _ (u : Setup) where
@@ -38,7 +38,7 @@ module _ (u : Setup) where
 
   -- a refused record leaves the state as it was
   pub refused-record : (s : State) (x : Heard) → (answerOf u s x ≡ accepted → ⊥) → stepOf u s x ≡ s
-  unfolding step
+  unfolding stepBy
   refused-record s (known e) n = rw (ne-eqb (answer u s e) accepted n)
   refused-record s replyReady n =
       rw (ne-eqb (answer u s reply) accepted n) (rw (ne-eqb (answer u s reply) accepted n))

@@ -8,9 +8,10 @@ use lib.Dec.{eqb}
 use Rattle.rules.specs.Refusals.{accepted}
 use Rattle.rules.specs.Setup.{Setup}
 use Rattle.rules.specs.State.{State}
+use Rattle.rules.specs.Rank.{Rank, outranks}
 use Rattle.rules.specs.Queues.{waits}
 use Rattle.rules.specs.Events.{Event}
-use Rattle.rules.specs.Step.{answer}
+use Rattle.rules.specs.Step.{answerBy}
 use Rattle.rules.specs.History.{after, changed, begins, hits, strikes, strikesInRoom, passedIn}
 use Rattle.rules.specs.History.{struck, struckInRoom}
 use Rattle.rules.proofs.Tests.{by-test, clash}
@@ -29,14 +30,15 @@ module _ (u : Setup) (c : ℕ) where
   not-yet false true q m n f g h = clash refl h
   not-yet false false q m n f g h = rw (f refl) (g h)
 
-  kept-so : (e : Event) (s : State) (m n : Bool) → (m ≡ false → n ≡ false)
-      → changed u (passedIn u (strikes u) c) s e m ≡ false → changed u (passedIn u (strikesInRoom u) c) s e n ≡ false
-  kept-so e s m n g h =
-      by-test (eqb (answer u s e) accepted)
+  kept-so : (e : Event) (rank : Rank) (s : State) (m n : Bool) → (m ≡ false → n ≡ false)
+      → changed u (λ (r : Rank). passedIn u (strikes u) c) rank s e m ≡ false
+      → changed u (λ (r : Rank). passedIn u (strikesInRoom u) c) rank s e n ≡ false
+  kept-so e rank s m n g h =
+      by-test (eqb (answerBy u rank s e) accepted)
       (λ a. rw a (not-yet (begins u c e) (strikes u c s e) (strikesInRoom u c s e) m n (missed s e) g (rw a at h)))
       (λ a. rw a (g (rw a at h)))
 
   pub unstruck-in-room : (h : List Event) → struck u c h ≡ false → struckInRoom u c h ≡ false
   unstruck-in-room [] z = refl
   unstruck-in-room (e ∷ h) z =
-      kept-so e (after u h) (struck u c h) (struckInRoom u c h) (unstruck-in-room h) z
+      kept-so e (outranks u (after u h)) (after u h) (struck u c h) (struckInRoom u c h) (unstruck-in-room h) z

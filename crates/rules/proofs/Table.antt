@@ -1,6 +1,7 @@
 -- The words that the tables of cases are written in: a setup, its records, and what the rules give for them.
 -- Assumes nothing.
 use Prim.Native.Nat.{ℕ}
+use mathlib.Core.Bool.{Bool, true, false}
 use mathlib.Core.List.{List, map, reverse}
 use mathlib.Core.Option.{Option}
 use lib.ListN.{length, getD}
@@ -28,31 +29,49 @@ rt k p = record { kind = 0; cluster = k; priority = p }
 abbrev pub be : ℕ → ℕ → Row
 be k p = record { kind = 1; cluster = k; priority = p }
 
--- the sizes of the clusters, the rows of the clients, the length cap and the tidying cap; 0 past the end of either list
-abbrev pub tidied : List ℕ → List Row → ℕ → ℕ → Setup
-tidied sizes rows cap tidy = record {
+-- the sizes of the clusters, the rows of the clients, the length cap, the tidying cap, and whether the clients go by
+-- deadlines; 0 past the end of either list
+abbrev pub ranked : List ℕ → List Row → ℕ → ℕ → Bool → Setup
+ranked sizes rows cap tidy timed = record {
   clusters = length sizes;
   clients = length rows;
   cap = cap;
   tidy = tidy;
+  timed = timed;
   size = λ (k : ℕ). getD sizes k 0;
   kind = λ (c : ℕ). getD rows c (rt 0 0) .kind;
   cluster = λ (c : ℕ). getD rows c (rt 0 0) .cluster;
   priority = λ (c : ℕ). getD rows c (rt 0 0) .priority;
 }
 
--- a setup of document 01: there is no tidying
+-- real-time clients go by priorities ..
+abbrev pub tidied : List ℕ → List Row → ℕ → ℕ → Setup
+tidied sizes rows cap tidy = ranked sizes rows cap tidy false
+
+-- .. or by deadlines
+abbrev pub due : List ℕ → List Row → ℕ → ℕ → Setup
+due sizes rows cap tidy = ranked sizes rows cap tidy true
+
+-- a setup of document 01: there is no tidying, and no deadline
 abbrev pub given : List ℕ → List Row → ℕ → Setup
 given sizes rows cap = tidied sizes rows cap 0
 
 -- RECORDS
 
+-- a code, its argument and a deadline
+abbrev pub rawBy : ℕ → ℕ → ℕ → Record
+rawBy n a d = record { code = n; argument = a; deadline = d }
+
 -- a code and its argument
 abbrev pub raw : ℕ → ℕ → Record
-raw n a = record { code = n; argument = a }
+raw n a = rawBy n a 0
 
 abbrev pub invokes : ℕ → Record
 invokes c = raw 1 c
+
+-- an invoke with its deadline
+abbrev pub invokesBy : ℕ → ℕ → Record
+invokesBy c d = rawBy 1 c d
 
 abbrev pub runs : ℕ → Record
 runs n = raw 2 n
@@ -68,11 +87,11 @@ readies = raw 5 0
 
 -- the events of these records of a log of version 1, read forwards; the latest first
 abbrev pub past : Setup → List Record → List Event
-past u rs = said u (map (heardOf 1) (reverse rs))
+past u rs = said u (map (heardOf 1 (u .timed)) (reverse rs))
 
--- .. and of version 2
+-- .. and of a later version
 abbrev pub past2 : Setup → List Record → List Event
-past2 u rs = said u (map (heardOf 2) (reverse rs))
+past2 u rs = said u (map (heardOf 2 (u .timed)) (reverse rs))
 
 -- CASES
 
@@ -99,6 +118,10 @@ caseOf = caseIn 1
 abbrev pub case2 : Setup → List Record → List ℕ → List (Option ℕ) → List ℕ → Case
 case2 = caseIn 2
 
+-- a log of version 3
+abbrev pub case3 : Setup → List Record → List ℕ → List (Option ℕ) → List ℕ → Case
+case3 = caseIn 3
+
 -- all that a case speaks of, the answer to its setup too
 pub record Shown : Type 0 where
   pub setup : ℕ
@@ -108,7 +131,7 @@ pub record Shown : Type 0 where
 
 -- what its records say
 abbrev pub heardIn : Case → List Heard
-heardIn t = map (heardOf (t .version)) (t .records)
+heardIn t = map (heardOf (t .version) (t .setup .timed)) (t .records)
 
 -- what the rules give
 abbrev pub got : Case → Shown

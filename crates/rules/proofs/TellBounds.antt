@@ -9,7 +9,7 @@ use Rattle.rules.specs.Setup.{Setup, setupAnswer, span}
 use Rattle.rules.specs.Rank.{outranks}
 use Rattle.rules.specs.Queues.{refill, queue, pick}
 use Rattle.rules.specs.Events.{Event, invoked, ran, replied, aborted, readied}
-use Rattle.rules.specs.Step.{answer, next, step}
+use Rattle.rules.specs.Step.{answerBy, movedBy, nextBy, stepBy}
 use Rattle.rules.specs.Records.{Record, replyCode, eventOf}
 use Rattle.rules.specs.History.{struck, struckInRoom, owed}
 use Rattle.rules.specs.Demands.{worst, worstUnstruck, reach, reachUnstruck}
@@ -89,12 +89,12 @@ reachedBy u h = record { owed = owed u 2 h; struck = struck u 2 h; inRoom = stru
 -- (1 + 2mK)L without such an abort ..
 pub quiet-reaches : reachedBy twoByTwo (past twoByTwo quiet)
     ≡ record { owed = worstUnstruck 2 2 10; struck = false; inRoom = false }
-unfolding eventOf answer next step outranks refill queue pick invoked ran replied aborted readied
+unfolding eventOf answerBy nextBy movedBy stepBy outranks refill queue pick invoked ran replied aborted readied
 quiet-reaches = refl
 
 -- .. and (2 + 2mK)L with it
 pub hit-reaches : reachedBy twoByTwo (past twoByTwo hit) ≡ record { owed = worst 2 2 10; struck = true; inRoom = true }
-unfolding eventOf answer next step outranks refill queue pick invoked ran replied aborted readied
+unfolding eventOf answerBy nextBy movedBy stepBy outranks refill queue pick invoked ran replied aborted readied
 hit-reaches = refl
 
 -- WITH TIDYING
@@ -115,11 +115,11 @@ tidily (r ∷ rs) = cond (eqb (r .code) replyCode) (r ∷ runs 3 ∷ readies ∷
 -- L + 2mKS without such an abort, 3 less than (1 + 2mK)S ..
 pub tidy-quiet-reaches : reachedBy tidyTwoByTwo (past2 tidyTwoByTwo (tidily quiet))
     ≡ record { owed = reachUnstruck 2 2 10 13; struck = false; inRoom = false }
-unfolding eventOf answer next step outranks refill queue pick invoked ran replied aborted readied
+unfolding eventOf answerBy nextBy movedBy stepBy outranks refill queue pick invoked ran replied aborted readied
 tidy-quiet-reaches = refl
 
 -- .. and 2L + 2mKS with it, 6 less than (2 + 2mK)S
 pub tidy-hit-reaches : reachedBy tidyTwoByTwo (past2 tidyTwoByTwo (tidily hit))
     ≡ record { owed = reach 2 2 10 13; struck = true; inRoom = true }
-unfolding eventOf answer next step outranks refill queue pick invoked ran replied aborted readied
+unfolding eventOf answerBy nextBy movedBy stepBy outranks refill queue pick invoked ran replied aborted readied
 tidy-hit-reaches = refl

@@ -9,7 +9,7 @@ use lib.IntN.{pos, natAbs}
 use Rattle.rules.specs.Rank.{outranks}
 use Rattle.rules.specs.Queues.{refill, queue, pick}
 use Rattle.rules.specs.Events.{invoked, ran, replied, aborted, readied}
-use Rattle.rules.specs.Step.{answer, next, step}
+use Rattle.rules.specs.Step.{answerBy, movedBy, nextBy, stepBy}
 use Rattle.rules.specs.Records.{eventOf}
 use Rattle.rules.specs.History.{calls}
 use Rattle.rules.specs.Quote.{Order, quote}
@@ -26,7 +26,7 @@ abbrev pub logUse : Use
 logUse = record { setup = logSetup; client = 1; events = past logSetup logRecords }
 
 called-once : calls logSetup 1 (past logSetup logRecords) ≡ 1
-unfolding eventOf answer next step outranks refill queue pick invoked ran replied aborted readied
+unfolding eventOf answerBy nextBy movedBy stepBy outranks refill queue pick invoked ran replied aborted readied
 called-once = refl
 
 pub log-keeps : Keeps logOrder (logUse ∷ [])
@@ -45,7 +45,7 @@ log-keeps = (
 
 -- its 40 units and e are all of the budget
 pub budget-used-up : natAbs (logOrder .work) + chargedFor (logUse ∷ []) ≡ quote logOrder .budget
-unfolding quote eventOf answer next step outranks refill queue pick invoked ran replied aborted readied
+unfolding quote eventOf answerBy nextBy movedBy stepBy outranks refill queue pick invoked ran replied aborted readied
 budget-used-up = refl
 
 -- A line of no calls does not allow its one call; nor does one for another m, K, L or W fit its gate.

@@ -9,7 +9,7 @@ use Rattle.rules.specs.Setup.{Setup}
 use Rattle.rules.specs.Rank.{outranks}
 use Rattle.rules.specs.Queues.{refill, queue, pick}
 use Rattle.rules.specs.Events.{invoked, ran, replied, aborted, readied}
-use Rattle.rules.specs.Step.{answer, next, step}
+use Rattle.rules.specs.Step.{answerBy, movedBy, nextBy, stepBy, next}
 use Rattle.rules.specs.Records.{Record, eventOf}
 use Rattle.rules.specs.History.{waiting, struck, struckInRoom, calls, owed, owedInAll}
 use Rattle.rules.proofs.Table.{rt, be, given, invokes, runs, replies, aborts, past}
@@ -105,5 +105,5 @@ readOf t =
     readAs (waiting two c h) (struck two c h) (struckInRoom two c h) (calls two c h) (owed two c h) (owedInAll two c h)
 
 pub historyCases-hold : map readOf historyCases ≡ map (λ (t : Telling). t .wanted) historyCases
-unfolding historyCases eventOf answer next step outranks refill queue pick invoked ran replied aborted readied
+unfolding historyCases eventOf answerBy nextBy movedBy stepBy outranks refill queue pick invoked ran replied aborted readied
 historyCases-hold = refl

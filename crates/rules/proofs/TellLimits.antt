@@ -2,15 +2,16 @@
 -- quotes.
 -- Assumes nothing.
 use Prim.Native.Nat.{ℕ}
+use mathlib.Core.Bool.{false}
 use mathlib.Core.Path.{_≡_, refl}
 use mathlib.Core.List.{List, [], _∷_, map}
 use lib.IntN.{ℤ, pos, negsuc}
-use Rattle.rules.specs.Limits.{maxClusters, maxSize, maxClients, maxCap, maxTidy, maxCharge, unusedPlace}
+use Rattle.rules.specs.Limits.{maxClusters, maxSize, maxClients, maxCap, maxTidy, maxCharge, maxDeadline, unusedPlace}
 use Rattle.rules.specs.Limits.{maxWork, maxPeriod, maxLines, maxCalls}
 use Rattle.rules.specs.Refusals.{accepted, badClusters, noCap, manyClients, badSize, badRow, noClient}
 use Rattle.rules.specs.Refusals.{waitsAlready, serverIdle, runOfNone, runPastCap, notWaiting, bestEffort}
 use Rattle.rules.specs.Refusals.{spentAlready, unknownRecord, unsound, notTidying, logShort, badMark}
-use Rattle.rules.specs.Refusals.{badVersion, logCut, logLong, noRoom, fieldOut, overPeriod, badLines}
+use Rattle.rules.specs.Refusals.{badVersion, logCut, logLong, noRoom, badRanks, fieldOut, overPeriod, badLines}
 use Rattle.rules.specs.Setup.{Setup, setupAnswer}
 use Rattle.rules.specs.Quote.{Order, orderOf, Quote, quote}
 use Rattle.rules.proofs.Table.{rt, be, given, Row}
@@ -18,17 +19,18 @@ use Rattle.rules.proofs.Table.{rt, be, given, Row}
 -- NUMBERS
 
 pub limits-are :
-    maxClusters ∷ maxSize ∷ maxClients ∷ maxCap ∷ maxTidy ∷ maxCharge ∷ unusedPlace ∷ maxWork ∷ maxPeriod ∷
-    maxLines ∷ maxCalls ∷ []
-    ≡ 8 ∷ 8 ∷ 64 ∷ 65535 ∷ 65535 ∷ 33554431 ∷ 255 ∷ 1000000000 ∷ 200000000000 ∷ 16 ∷ 1000 ∷ []
+    maxClusters ∷ maxSize ∷ maxClients ∷ maxCap ∷ maxTidy ∷ maxCharge ∷ maxDeadline ∷ unusedPlace ∷ maxWork ∷
+    maxPeriod ∷ maxLines ∷ maxCalls ∷ []
+    ≡ 8 ∷ 8 ∷ 64 ∷ 65535 ∷ 65535 ∷ 33554431 ∷ 4294967295 ∷ 255 ∷ 1000000000 ∷ 200000000000 ∷ 16 ∷ 1000 ∷ []
 limits-are = refl
 
 pub numbers-are :
     accepted ∷ badClusters ∷ noCap ∷ manyClients ∷ badSize ∷ badRow ∷ noClient ∷ waitsAlready ∷ serverIdle ∷
     runOfNone ∷ runPastCap ∷ notWaiting ∷ bestEffort ∷ spentAlready ∷ unknownRecord ∷ unsound ∷ notTidying ∷
-    logShort ∷ badMark ∷ badVersion ∷ logCut ∷ logLong ∷ noRoom ∷ fieldOut ∷ overPeriod ∷ badLines ∷ []
+    logShort ∷ badMark ∷ badVersion ∷ logCut ∷ logLong ∷ noRoom ∷ badRanks ∷ fieldOut ∷ overPeriod ∷ badLines ∷
+    []
     ≡ 0 ∷ 1 ∷ 2 ∷ 3 ∷ 4 ∷ 5 ∷ 10 ∷ 11 ∷ 12 ∷ 13 ∷ 14 ∷ 15 ∷ 16 ∷ 17 ∷ 18 ∷ 19 ∷ 26 ∷ 20 ∷ 21 ∷ 22 ∷ 23 ∷ 24 ∷ 25 ∷
-    30 ∷ 31 ∷ 32 ∷ []
+    33 ∷ 30 ∷ 31 ∷ 32 ∷ []
 numbers-are = refl
 
 -- SETUPS
@@ -40,6 +42,7 @@ alike K N L m r = record {
   clients = N;
   cap = L;
   tidy = 0;
+  timed = false;
   size = λ (k : ℕ). m;
   kind = λ (c : ℕ). r .kind;
   cluster = λ (c : ℕ). r .cluster;

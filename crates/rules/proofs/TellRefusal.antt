@@ -7,7 +7,7 @@ use Rattle.rules.specs.Setup.{setupAnswer}
 use Rattle.rules.specs.Rank.{outranks}
 use Rattle.rules.specs.Queues.{refill, queue, pick}
 use Rattle.rules.specs.Events.{invoked, ran, replied, aborted, readied}
-use Rattle.rules.specs.Step.{answer, next, step}
+use Rattle.rules.specs.Step.{answerBy, movedBy, nextBy, stepBy}
 use Rattle.rules.specs.Records.{eventOf}
 use Rattle.rules.specs.Replay.{replayFrom, entriesFrom}
 use Rattle.rules.proofs.Table.{rt, be, given, raw, invokes, runs, replies, aborts}
@@ -81,6 +81,6 @@ refusalCases =
     []
 
 pub refusalCases-hold : map got refusalCases ≡ map wanted refusalCases
-unfolding refusalCases setupAnswer entriesFrom replayFrom eventOf answer next step
+unfolding refusalCases setupAnswer entriesFrom replayFrom eventOf answerBy nextBy movedBy stepBy
     outranks refill queue pick invoked ran replied aborted readied
 refusalCases-hold = refl

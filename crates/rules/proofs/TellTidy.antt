@@ -9,7 +9,7 @@ use Rattle.rules.specs.State.{fresh}
 use Rattle.rules.specs.Rank.{outranks}
 use Rattle.rules.specs.Queues.{refill, queue, pick}
 use Rattle.rules.specs.Events.{invoke, run, reply, invoked, ran, replied, aborted, readied}
-use Rattle.rules.specs.Step.{answer, next, step}
+use Rattle.rules.specs.Step.{answerBy, movedBy, nextBy, stepBy}
 use Rattle.rules.specs.Records.{known, replyReady, eventOf}
 use Rattle.rules.specs.Replay.{Entry, replayFrom, entriesFrom}
 use Rattle.rules.proofs.Table.{rt, be, tidied, raw, invokes, runs, replies, aborts, readies}
@@ -200,7 +200,7 @@ tidyCases =
     []
 
 pub tidyCases-hold : map got tidyCases ≡ map wanted tidyCases
-unfolding tidyCases setupAnswer entriesFrom replayFrom eventOf answer next step
+unfolding tidyCases setupAnswer entriesFrom replayFrom eventOf answerBy nextBy movedBy stepBy
     outranks refill queue pick invoked ran replied aborted readied
 tidyCases-hold = refl
 
@@ -208,7 +208,7 @@ tidyCases-hold = refl
 -- comes to this (FirstVersion, never-tidying), so that what the records say is written out.
 pub no-ready-after-refusal :
     map (λ (e : Entry). e .answer)
-    (entriesFrom (one 5) fresh (known (invoke 0) ∷ known reply ∷ replyReady ∷ known (run 1) ∷ []))
+    (entriesFrom (one 5) fresh (known (invoke 0 none) ∷ known reply ∷ replyReady ∷ known (run 1) ∷ []))
     ≡ 0 ∷ 0 ∷ 12 ∷ 0 ∷ []
-unfolding entriesFrom answer next step outranks refill queue pick invoked ran replied readied
+unfolding entriesFrom answerBy nextBy movedBy stepBy outranks refill queue pick invoked ran replied readied
 no-ready-after-refusal = refl

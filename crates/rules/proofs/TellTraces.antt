@@ -3,12 +3,13 @@
 use Prim.Native.Nat.{ℕ}
 use mathlib.Core.Path.{_≡_, refl}
 use mathlib.Core.List.{List, [], _∷_, map}
+use mathlib.Core.Bool.{false}
 use mathlib.Core.Option.{Option, some, none}
 use Rattle.rules.specs.Setup.{Setup, setupAnswer}
 use Rattle.rules.specs.Rank.{outranks}
 use Rattle.rules.specs.Queues.{refill, queue, pick}
 use Rattle.rules.specs.Events.{invoked, ran, replied, aborted, readied}
-use Rattle.rules.specs.Step.{answer, next, step}
+use Rattle.rules.specs.Step.{answerBy, movedBy, nextBy, stepBy, answer, next}
 use Rattle.rules.specs.Records.{Record, eventOf}
 use Rattle.rules.specs.Traces.{Traced, seenFrom, theAnswer, theServed, theCharges, Verdict, refused, agrees}
 use Rattle.rules.specs.Traces.{differs, compared, traceVerdict}
@@ -43,6 +44,7 @@ untrimmed = record {
   clients = 1;
   cap = 10;
   tidy = 0;
+  timed = false;
   size = λ (k : ℕ). 1;
   kind = λ (c : ℕ). 0;
   cluster = λ (c : ℕ). c;
@@ -130,12 +132,12 @@ traceCases =
     trace 2 (given (1 ∷ []) (rt 1 0 ∷ []) 10) [] (refused 5) ∷
     -- a version that is not known
     trace 0 three right (refused 22) ∷
-    trace 3 three right (refused 22) ∷
-    trace 3 (given [] [] 10) [] (refused 22) ∷
+    trace 4 three right (refused 22) ∷
+    trace 4 (given [] [] 10) [] (refused 22) ∷
     []
 
 pub traceCases-hold : map (λ (t : Telling). traceVerdict (t .version) (t .setup) (t .entries)) traceCases
     ≡ map (λ (t : Telling). t .wanted) traceCases
 unfolding traceCases traceVerdict compared seenFrom setupAnswer
-    eventOf answer next step outranks refill queue pick invoked ran replied aborted readied
+    eventOf answerBy nextBy movedBy stepBy outranks refill queue pick invoked ran replied aborted readied
 traceCases-hold = refl

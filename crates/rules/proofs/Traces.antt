@@ -14,6 +14,7 @@ use Rattle.rules.specs.Setup.{Setup, setupAnswer, trimmed}
 use Rattle.rules.specs.State.{State, fresh}
 use Rattle.rules.specs.Records.{Heard, isVersion, heardOf, stepOf}
 use Rattle.rules.specs.Replay.{chargesBelow, replayFrom}
+use Rattle.rules.specs.Step.{ownRanks}
 use Rattle.rules.specs.History.{owed}
 use Rattle.rules.specs.Traces.{Seen, Traced, noneSeen, seenAfter, seenFrom, sameServed, sameCharges, Part}
 use Rattle.rules.specs.Traces.{theAnswer, theServed, theCharges, difference, Verdict, refused, agrees, differs}
@@ -145,7 +146,7 @@ module _ (v : ℕ) (u : Setup) (es : List Traced) where
   as-many : length (reported v u es) ≡ length (ruled v u es)
   as-many =
       length-map es (λ (e : Traced). e .seen)
-      ∙ sym (length-seen (trimmed u) fresh (heards v es) ∙ length-map es (λ (e : Traced). heardOf v (e .event)))
+      ∙ sym (length-seen (trimmed u) fresh (heards v (u .timed) es) ∙ length-map es (λ (e : Traced). heardOf v (u .timed) (e .event)))
 
   told : (x : Verdict) → ((k : ℕ) → x ≡ refused k → ⊥) → traceVerdict v u es ≡ x
       → (isVersion v ≡ true) × (eqb (setupAnswer u) accepted ≡ true) × (compared 0 (reported v u es) (ruled v u es) ≡ x)
@@ -201,15 +202,15 @@ charge-below f (suc n) c h =
     last-at (y ∷ l) zero x e = absurd (omega arith)
     last-at (y ∷ l) (suc n) x e = last-at l n x (omega arith)
 
-module _ (v : ℕ) (u : Setup) where
+module _ (v : ℕ) (timed : Bool) (u : Setup) where
   -- an entry of a trace that is what the rules give is what they give after the entries before it
   seen-there : (s : State) (past : List Traced) (e : Traced) (rest : List Traced)
-      → map (λ (d : Traced). d .seen) (past ++ (e ∷ rest)) ≡ seenFrom u s (heards v (past ++ (e ∷ rest)))
-      → e .seen ≡ seenAfter u (replayFrom u s (heards v past)) (heardOf v (e .event))
+      → map (λ (d : Traced). d .seen) (past ++ (e ∷ rest)) ≡ seenFrom u s (heards v timed (past ++ (e ∷ rest)))
+      → e .seen ≡ seenAfter u (replayFrom u s (heards v timed past)) (heardOf v timed (e .event))
   unfolding seenFrom replayFrom
   seen-there s [] e rest q = ap (λ (l : List Seen). getD l 0 noneSeen) q
   seen-there s (d ∷ past) e rest q =
-      seen-there (stepOf u s (heardOf v (d .event))) past e rest (ap (drop 1) q)
+      seen-there (stepOf u s (heardOf v timed (d .event))) past e rest (ap (drop 1) q)
 
 -- so the charges that it reports are sums over the events so far
 pub charge-there : (v : ℕ) (u : Setup) (past : List Traced) (e : Traced) (rest : List Traced)
@@ -217,12 +218,12 @@ pub charge-there : (v : ℕ) (u : Setup) (past : List Traced) (e : Traced) (rest
     → getD (e .seen .charges) c 0 ≡ owed (trimmed u) c (traced v u (past ++ (e ∷ [])))
 charge-there v u past e rest r c b =
     let t = trimmed u in
-    let x = heardOf v (e .event) in
-    let s = replayFrom t fresh (heards v past) in
-    ap (λ (y : Seen). getD (y .charges) c 0) (seen-there v t fresh past e rest (r .entries))
+    let x = heardOf v (u .timed) (e .event) in
+    let s = replayFrom t fresh (heards v (u .timed) past) in
+    ap (λ (y : Seen). getD (y .charges) c 0) (seen-there v (u .timed) t fresh past e rest (r .entries))
     ∙ charge-below (stepOf t s x .charge) (u .clients) c b
-    ∙ ap (λ (y : State). y .charge c) (sym (replay-snoc t fresh (heards v past) x))
+    ∙ ap (λ (y : State). y .charge c) (sym (replay-snoc t fresh (heards v (u .timed) past) x))
     ∙ ap (λ (xs : List Heard). replayFrom t fresh xs .charge c)
-    (sym (map-append (λ (d : Traced). heardOf v (d .event)) past (e ∷ [])))
-    ∙ ap (λ (y : State). y .charge c) (replay-said t (heards v (past ++ (e ∷ []))) [])
-    ∙ charge-is-owed t c (traced v u (past ++ (e ∷ [])))
+    (sym (map-append (λ (d : Traced). heardOf v (u .timed) (d .event)) past (e ∷ [])))
+    ∙ ap (λ (y : State). y .charge c) (replay-said t (heards v (u .timed) (past ++ (e ∷ []))) [])
+    ∙ charge-is-owed t (ownRanks t) c (traced v u (past ++ (e ∷ [])))

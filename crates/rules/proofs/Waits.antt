@@ -1,4 +1,4 @@
--- Who waits after an event, and so that a wait by events is a place in a line or a waiting room.
+-- Who waits after an event.
 -- Assumes nothing.
 use Prim.Native.Nat.{ℕ}
 use mathlib.Core.Path.{_≡_, refl, sym, _∙_}
@@ -9,27 +9,25 @@ use lib.ListN.{length}
 use borrow.Author.Tests.{eqb-true, eqb-false, eq-eqb}
 use Rattle.rules.specs.Refusals.{accepted}
 use Rattle.rules.specs.Lists.{upd, has, heads, remove, Distinct}
-use Rattle.rules.specs.Setup.{Setup, Accepted, realTime}
+use Rattle.rules.specs.Setup.{Setup, realTime}
 use Rattle.rules.specs.State.{State, Server, idle, front, best, spent, tidying, isFront, isServing, serves}
-use Rattle.rules.specs.Rank.{Rank, outranks}
+use Rattle.rules.specs.Rank.{Rank}
 use Rattle.rules.specs.Queues.{waits, without, refill, queue, start, pick, pickIdle}
 use Rattle.rules.specs.Events.{Event, invoke, run, reply, abort, ready, joined, roomed, arrive, invoked}
 use Rattle.rules.specs.Events.{ran, freed, gone, ended, replied, spend, unqueue, aborted, readied}
-use Rattle.rules.specs.Step.{answer, next, step}
-use Rattle.rules.specs.History.{after, waitsOn, waiting}
+use Rattle.rules.specs.Step.{answerBy, movedBy, nextBy}
+use Rattle.rules.specs.History.{waitsOn}
 use Rattle.rules.proofs.Tests.{by-test, clash, not-so, either-true, upd-same, upd-other}
 use Rattle.rules.proofs.Lists.{has-append, snoc-has, removed, remove-other, heads-has}
 use Rattle.rules.proofs.Highest.{StrictTotal}
-use Rattle.rules.proofs.Ranking.{by-priority}
 use Rattle.rules.proofs.Refill.{refill-cases}
 use Rattle.rules.proofs.InOrder.{InOrder}
 use Rattle.rules.proofs.Goes.{room-waits}
 use Rattle.rules.proofs.Placed.{Placed}
 use Rattle.rules.proofs.Answers.{reply-accepted, abort-accepted}
-use Rattle.rules.proofs.Reached.{reached}
 
 -- whoever waits is real-time
-waits-real : (u : Setup) (s : State) (c : ℕ) → InOrder u s → waits u s c ≡ true → realTime u c ≡ true
+pub waits-real : (u : Setup) (s : State) (c : ℕ) → InOrder u s → waits u s c ≡ true → realTime u c ≡ true
 waits-real u s c i h =
     either-true (has c (s .lines (u .cluster c))) (s .room c) h
     (λ e. i .lined .line (u .cluster c) .real c e) (λ e. i .lined .in-room c e .real)
@@ -177,10 +175,10 @@ module _ (u : Setup) (x : ℕ) where
         (λ h. rw (r, b, h) (gone-waits rank order c s once r)))
 
   -- what an accepted event makes of a wait of x
-  next-waits : (s : State) → InOrder u s → Placed u s → (e : Event) → answer u s e ≡ accepted
-      → waits u (next u s e) x ≡ waitsOn u x s e (waits u s x)
-  unfolding next invoked ran replied readied
-  next-waits s i p (invoke c) a =
+  pub next-waits : (rank : Rank) → StrictTotal rank → (s : State) → InOrder u s → Placed u s → (e : Event)
+      → answerBy u rank s e ≡ accepted → waits u (nextBy u rank s e) x ≡ waitsOn u x s e (waits u s x)
+  unfolding nextBy movedBy invoked ran replied readied
+  next-waits rank order s i p (invoke c o) a =
       idle-waits (s .server) _
       ∙ by-test (realTime u c)
       (λ r. rw r (arrive-waits c (s .lines (u .cluster c)) s ∙ by-test (eqb c x)
@@ -189,23 +187,9 @@ module _ (u : Setup) (x : ℕ) where
       (λ r. rw r (by-test (eqb c x)
       (λ e. let t : realTime u x ≡ false = rw (eqb-true c x e) at r in rw (e, t))
       (λ e. rw e)))
-  next-waits s i p (run n) a = refl
-  next-waits s i p reply a =
-      ended-waits (outranks u s) (by-priority u .order s) s i p (s .server) refl (reply-accepted u s a)
-  next-waits s i p (abort c) a =
-      aborted-waits (outranks u s) (by-priority u .order s) s i c (abort-accepted u s c a .waiting)
-  next-waits s i p ready a = pick-waits s
-
-  -- HISTORIES
-
-  -- A wait by events, from an accepted invoke to the reply that ends it or the client's accepted abort, is a place in
-  -- the client's line or waiting room.
-  pub waiting-waits : Accepted u → (h : List Event) → waiting u x h ≡ waits u (after u h) x
-  unfolding step
-  waiting-waits ok [] = refl
-  waiting-waits ok (e ∷ h) =
-      let i = reached u ok (by-priority u) h in
-      by-test (eqb (answer u (after u h) e) accepted)
-      (λ q. rw (q, waiting-waits ok h)
-      (sym (next-waits (after u h) (i .in-order) (i .placed) e (eqb-true (answer u (after u h) e) accepted q))))
-      (λ q. rw q (waiting-waits ok h))
+  next-waits rank order s i p (run n) a = refl
+  next-waits rank order s i p reply a =
+      ended-waits rank order s i p (s .server) refl (reply-accepted u rank s a)
+  next-waits rank order s i p (abort c) a =
+      aborted-waits rank order s i c (abort-accepted u rank s c a .waiting)
+  next-waits rank order s i p ready a = pick-waits s

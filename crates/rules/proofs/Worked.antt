@@ -3,13 +3,13 @@
 -- Assumes nothing.
 use Prim.Native.Nat.{ℕ, _+_, _*_}
 use mathlib.Core.Path.{_≡_, refl}
-use mathlib.Core.Bool.{cond}
+use mathlib.Core.Bool.{false, cond}
 use mathlib.Core.List.{List, [], _∷_, map}
 use Rattle.rules.specs.Setup.{Setup, service}
 use Rattle.rules.specs.Rank.{outranks}
 use Rattle.rules.specs.Queues.{refill, queue, pick}
 use Rattle.rules.specs.Events.{Event, invoked, ran, replied, aborted, readied}
-use Rattle.rules.specs.Step.{answer, next, step}
+use Rattle.rules.specs.Step.{answerBy, movedBy, nextBy, stepBy}
 use Rattle.rules.specs.Records.{Record, Heard, eventOf, heardOf}
 use Rattle.rules.specs.History.{after, said, struckInRoom}
 use Rattle.rules.proofs.Kept.{isIt, lower, rounds, dueIn, inTheWay}
@@ -39,11 +39,11 @@ module _ (u : Setup) (c : ℕ) where
   accounts past [] = []
   accounts past (x ∷ xs) = accountAfter (said u (x ∷ past)) ∷ accounts (x ∷ past) xs
 
-pub log-accounts : accounts logSetup 1 [] (map (heardOf 1) logRecords)
+pub log-accounts : accounts logSetup 1 [] (map (heardOf 1 false) logRecords)
     ≡ account 0 0 30 ∷ account 0 0 30 ∷ account 0 20 20 ∷ account 10 10 20 ∷ account 10 10 20 ∷ account 20 0 20
     ∷ account 20 0 20 ∷ account 20 0 20 ∷ account 20 20 40 ∷ account 30 10 40 ∷ account 30 10 40 ∷ account 40 0 40
     ∷ account 40 0 40 ∷ []
-unfolding eventOf answer next step outranks refill queue pick invoked ran replied aborted readied
+unfolding eventOf answerBy nextBy movedBy stepBy outranks refill queue pick invoked ran replied aborted readied
 log-accounts = refl
 
 -- The same without the abort.
@@ -52,8 +52,8 @@ unabortedRecords =
     invokes 3 ∷ invokes 2 ∷ invokes 1 ∷ runs 10 ∷ replies ∷ runs 10 ∷ invokes 0 ∷ replies ∷ runs 10 ∷
     replies ∷ runs 10 ∷ replies ∷ []
 
-pub unaborted-accounts : accounts logSetup 1 [] (map (heardOf 1) unabortedRecords)
+pub unaborted-accounts : accounts logSetup 1 [] (map (heardOf 1 false) unabortedRecords)
     ≡ account 0 0 30 ∷ account 0 0 30 ∷ account 0 20 20 ∷ account 10 10 20 ∷ account 10 10 20 ∷ account 20 0 20
     ∷ account 20 0 20 ∷ account 20 0 20 ∷ account 20 0 20 ∷ account 20 10 30 ∷ account 30 0 30 ∷ account 30 0 30 ∷ []
-unfolding eventOf answer next step outranks refill queue pick invoked ran replied aborted readied
+unfolding eventOf answerBy nextBy movedBy stepBy outranks refill queue pick invoked ran replied aborted readied
 unaborted-accounts = refl

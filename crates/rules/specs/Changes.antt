@@ -15,6 +15,7 @@ withLine k l s = record {
   server = s .server;
   units = s .units;
   charge = s .charge;
+  deadline = s .deadline;
 }
 
 abbrev pub withRoom : ℕ → Bool → State → State
@@ -26,6 +27,7 @@ withRoom c b s = record {
   server = s .server;
   units = s .units;
   charge = s .charge;
+  deadline = s .deadline;
 }
 
 abbrev pub withGlobal : List ℕ → State → State
@@ -37,6 +39,7 @@ withGlobal g s = record {
   server = s .server;
   units = s .units;
   charge = s .charge;
+  deadline = s .deadline;
 }
 
 abbrev pub withBackground : List ℕ → State → State
@@ -48,6 +51,7 @@ withBackground b s = record {
   server = s .server;
   units = s .units;
   charge = s .charge;
+  deadline = s .deadline;
 }
 
 abbrev pub withServer : Server → ℕ → State → State
@@ -59,6 +63,7 @@ withServer v n s = record {
   server = v;
   units = n;
   charge = s .charge;
+  deadline = s .deadline;
 }
 
 abbrev pub withCharge : (ℕ → ℕ) → State → State
@@ -70,4 +75,17 @@ withCharge f s = record {
   server = s .server;
   units = s .units;
   charge = f;
+  deadline = s .deadline;
+}
+
+abbrev pub withDeadline : (ℕ → ℕ) → State → State
+withDeadline f s = record {
+  lines = s .lines;
+  room = s .room;
+  global = s .global;
+  background = s .background;
+  server = s .server;
+  units = s .units;
+  charge = s .charge;
+  deadline = f;
 }

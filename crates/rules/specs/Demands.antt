@@ -6,7 +6,8 @@ use mathlib.Core.Bool.{true, false}
 use mathlib.Core.List.{List}
 use Rattle.rules.specs.Setup.{Setup, realTime, service, span}
 use Rattle.rules.specs.Events.{Event}
-use Rattle.rules.specs.History.{owed, struck, struckInRoom}
+use Rattle.rules.specs.Step.{Ranks, ownRanks}
+use Rattle.rules.specs.History.{owed, owedBy, struck, struckInRoom, struckInRoomBy}
 
 -- THE FIGURES
 
@@ -30,16 +31,24 @@ reachUnstruck m K L S = L + 2 * (m * (K * S))
 -- WHAT IS PROVED OF THEM
 
 -- After any events, refused ones among them, a real-time client's charge for its latest wait is at most 2L + 2mKS; m is
--- the size of its own cluster.
+-- the size of its own cluster. Clients may rank in any way ..
+abbrev pub BoundedBy : Setup → Ranks → Type 0
+BoundedBy u ranks = (h : List Event) (c : ℕ) → realTime u c ≡ true
+    → owedBy u ranks c h ≤ reach (u .size (u .cluster c)) (u .clusters) (service u) (span u)
+
+-- .. or as the gate has it: by priorities or by deadlines.
 abbrev pub Bounded : Setup → Type 0
-Bounded u = (h : List Event) (c : ℕ) → realTime u c ≡ true
-    → owed u c h ≤ reach (u .size (u .cluster c)) (u .clusters) (service u) (span u)
+Bounded u = BoundedBy u (ownRanks u)
 
 -- Without an accepted abort of its own cluster's request in service while it was in the waiting room, at most
 -- L + 2mKS ..
+abbrev pub BoundedUnstruckInRoomBy : Setup → Ranks → Type 0
+BoundedUnstruckInRoomBy u ranks = (h : List Event) (c : ℕ) → realTime u c ≡ true
+    → struckInRoomBy u ranks c h ≡ false
+    → owedBy u ranks c h ≤ reachUnstruck (u .size (u .cluster c)) (u .clusters) (service u) (span u)
+
 abbrev pub BoundedUnstruckInRoom : Setup → Type 0
-BoundedUnstruckInRoom u = (h : List Event) (c : ℕ) → realTime u c ≡ true → struckInRoom u c h ≡ false
-    → owed u c h ≤ reachUnstruck (u .size (u .cluster c)) (u .clusters) (service u) (span u)
+BoundedUnstruckInRoom u = BoundedUnstruckInRoomBy u (ownRanks u)
 
 -- .. and so without one during that wait at all.
 abbrev pub BoundedUnstruck : Setup → Type 0

@@ -3,6 +3,7 @@
 use Prim.Native.Nat.{ℕ, _+_}
 use mathlib.Core.Bool.{Bool, true, false, _&&_, cond}
 use mathlib.Core.List.{List, [], _∷_, _++_}
+use mathlib.Core.Option.{Option, some, none}
 use lib.Dec.{eqb, ltb}
 use lib.ListN.{length}
 use Rattle.rules.specs.Lists.{upd, remove, heads, countBelow}
@@ -12,10 +13,11 @@ use Rattle.rules.specs.Changes.{withLine, withRoom, withGlobal, withBack
 use Rattle.rules.specs.Rank.{Rank}
 use Rattle.rules.specs.Queues.{waits, without, refill, queue, pick, pickIdle}
 
--- An event is one of five kinds, each with its own data: a client, a number of units, or none. `ready` is the event
--- that request 2 calls wait: the server has tidied up. Document 01 has the word wait for what a client does.
+-- An event is one of five kinds, each with its own data: a client, a number of units, or none. An invoke may carry a
+-- deadline. `ready` is the event that request 2 calls wait: the server has tidied up. Document 01 has the word wait for
+-- what a client does.
 pub data Event : Type 0 where
-  invoke : ℕ → Event
+  invoke : ℕ → Option ℕ → Event
   run : ℕ → Event
   reply : Event
   abort : ℕ → Event
@@ -118,3 +120,26 @@ aborted u rank c s =
 -- The tidying ends, and the next is picked.
 unfoldable pub readied : State → State
 readied s = pick s
+
+-- DEADLINES
+
+-- the number of an invoke's deadline, 0 where it has none
+abbrev pub dueBy : Option ℕ → ℕ
+dueBy none = 0
+dueBy (some d) = d
+
+-- The deadlines after an invoke of c: it is fixed for that wait. A best-effort client's has no effect.
+abbrev pub dated : Setup → ℕ → Option ℕ → (ℕ → ℕ) → ℕ → ℕ
+dated u c o f = cond (realTime u c) (upd f c (dueBy o)) f
+
+-- c waits no more: the gate holds 0 for a client that doesn't wait
+abbrev pub undated : ℕ → (ℕ → ℕ) → ℕ → ℕ
+undated c f = upd f c 0
+
+-- The deadlines after a reply. Of those in service only a front waits.
+abbrev pub answered : Server → (ℕ → ℕ) → ℕ → ℕ
+answered idle f = f
+answered (front c) f = undated c f
+answered (best c) f = f
+answered (spent c) f = f
+answered tidying f = f

@@ -26,6 +26,10 @@ maxTidy = 65535
 abbrev pub maxCharge : ℕ
 maxCharge = 33554431
 
+-- A deadline has 32 bits.
+abbrev pub maxDeadline : ℕ
+maxDeadline = 4294967295
+
 -- Unused places hold 255.
 abbrev pub unusedPlace : ℕ
 unusedPlace = 255

@@ -62,7 +62,8 @@ bestEffort = 16
 abbrev pub spentAlready : ℕ
 spentAlready = 17
 
--- unknown event code, or a reply or ready whose argument isn't 0
+-- unknown event code, a reply or ready whose argument isn't 0, an invoke without the form that its setup calls for, or
+-- a deadline where there is none
 abbrev pub unknownRecord : ℕ
 unknownRecord = 18
 
@@ -84,11 +85,11 @@ logShort = 20
 abbrev pub badMark : ℕ
 badMark = 21
 
--- version not 1 or 2
+-- version not 1, 2 or 3
 abbrev pub badVersion : ℕ
 badVersion = 22
 
--- W, tables or last record cut
+-- W, the byte of ranks, tables or last record cut
 abbrev pub logCut : ℕ
 logCut = 23
 
@@ -99,6 +100,10 @@ logLong = 24
 -- the buffer has no room for the whole next item, or the log would pass 65,536 bytes
 abbrev pub noRoom : ℕ
 noRoom = 25
+
+-- the byte of ranks says neither priorities nor deadlines
+abbrev pub badRanks : ℕ
+badRanks = 33
 
 -- OF AN ORDER
 

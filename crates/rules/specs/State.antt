@@ -19,6 +19,7 @@ pub data Server : Type 0 where
 -- global: the global queue of fronts; background: the background queue of best-effort clients.
 -- server, and with it the units served so far on that request; while it tidies, the units tidied since the reply.
 -- charge: for each client its charge.
+-- deadline: for each client the deadline of its wait, 0 for one that doesn't wait.
 pub record State : Type 0 where
   pub lines : ℕ → List ℕ
   pub room : ℕ → Bool
@@ -27,8 +28,10 @@ pub record State : Type 0 where
   pub server : Server
   pub units : ℕ
   pub charge : ℕ → ℕ
+  pub deadline : ℕ → ℕ
 
--- A fresh gate: nobody waits, the server is idle and every charge is 0. The empty gate has this state too.
+-- A fresh gate: nobody waits, the server is idle, every charge and every deadline is 0. The empty gate has this state
+-- too.
 abbrev pub fresh : State
 fresh = record {
   lines = λ (k : ℕ). [];
@@ -38,6 +41,7 @@ fresh = record {
   server = idle;
   units = 0;
   charge = λ (c : ℕ). 0;
+  deadline = λ (c : ℕ). 0;
 }
 
 -- THE SERVER

@@ -98,9 +98,9 @@ compared i (k ∷ ks) [] = agrees
 compared i (k ∷ ks) (r ∷ rs) = judged i (difference k r) (compared (suc i) ks rs)
 
 module _ (v : ℕ) where
-  -- what the records of a trace of version v say
-  abbrev pub heards : List Traced → List Heard
-  heards es = map (λ (e : Traced). heardOf v (e .event)) es
+  -- what the records of a trace of version v say, by whether its setup goes by deadlines
+  abbrev pub heards : Bool → List Traced → List Heard
+  heards timed es = map (λ (e : Traced). heardOf v timed (e .event)) es
 
   module _ (u : Setup) (es : List Traced) where
     -- what the kernel has seen, entry by entry
@@ -109,7 +109,7 @@ module _ (v : ℕ) where
 
     -- what our rules give from the fresh gate of the trace's setup
     abbrev pub ruled : List Seen
-    ruled = seenFrom (trimmed u) fresh (heards es)
+    ruled = seenFrom (trimmed u) fresh (heards (u .timed) es)
 
     -- A refused setup gives 1 to 5, and before that a version that is not known 22. Else the entries are compared.
     unfoldable pub traceVerdict : Verdict
@@ -120,7 +120,7 @@ module _ (v : ℕ) where
 
     -- the events of its records, the latest first
     abbrev pub traced : List Event
-    traced = said (trimmed u) (reverse (heards es))
+    traced = said (trimmed u) (reverse (heards (u .timed) es))
 
     -- WHAT IT COMES TO
 
