@@ -2,6 +2,7 @@
 -- Assumes nothing.
 use mathlib.Core.Bool.{cond}
 use mathlib.Core.Path.{_∙_, _≡_, ap, ap₂, refl, sym}
+use mathlib.Core.Option.{some, none}
 use lib.Dec.{eqb}
 use Rattle.rules.specs.Events as rules
 use Rattle.rules.specs.Records as records
@@ -10,7 +11,7 @@ use Rattle.rules.specs.Refusals.{accepted, badClusters, badSize, manyClients, n
 use Rattle.gate.specs.Heard.{heardIn}
 use Rattle.gate.specs.Made.{Made, Told, madeOf, told}
 use Rattle.gate.specs.Shown.{client}
-use Rattle.gate.specs.declared.Event.the-variants.{Abort, Invoke, Ready, Reply, Run}
+use Rattle.gate.specs.declared.Event.the-variants.{Abort, Invoke, InvokeBy, Ready, Reply, Run}
 use Rattle.gate.specs.declared.Fresh.{Fresh}
 use Rattle.gate.specs.declared.Gate.{Gate}
 use Rattle.gate.specs.declared.Heard.{Heard}
@@ -49,7 +50,8 @@ one-fresh a b e =
 pub heardFor : records.Heard → Heard
 heardFor unknown = Unknown
 heardFor replyReady = ReplyReady
-heardFor (known (rules.invoke c)) = Known (Invoke (client c))
+heardFor (known (rules.invoke c none)) = Known (Invoke (client c))
+heardFor (known (rules.invoke c (some d))) = Known (InvokeBy (client c) d)
 heardFor (known (rules.run n)) = Known (Run n)
 heardFor (known rules.reply) = Known Reply
 heardFor (known (rules.abort c)) = Known (Abort (client c))
@@ -60,6 +62,7 @@ unfolding heardFor
 heard-back Unknown = refl
 heard-back ReplyReady = refl
 heard-back (Known (Invoke c)) = refl
+heard-back (Known (InvokeBy c d)) = refl
 heard-back (Known (Run n)) = refl
 heard-back (Known Reply) = refl
 heard-back (Known (Abort c)) = refl

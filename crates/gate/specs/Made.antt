@@ -1,7 +1,7 @@
 -- What the check of a setup answers, and the gate that is made of it.
 -- Assumes nothing.
 use Prim.Native.Nat.{ℕ, zero, suc}
-use mathlib.Core.Bool.{Bool, cond}
+use mathlib.Core.Bool.{Bool, false, cond}
 use mathlib.Core.List.{List, [], _∷_}
 use lib.Dec.{eqb}
 use lib.ListN.{getD}
@@ -63,19 +63,21 @@ trimmedIn v = record {
   clients = v .clients;
   cap = v .cap;
   tidy = v .tidy;
+  timed = v .timed;
   sizes = zeroPast (v .clusters) (v .sizes);
   kinds = zeroPast (v .clients) (v .kinds);
   homes = zeroPast (v .clients) (v .homes);
   priorities = zeroPast (v .clients) (v .priorities);
 }
 
--- K, N, L and W 0, and all other numbers 0
+-- K, N, L and W 0, priorities, and all other numbers 0
 abbrev pub emptyBytes : Setup
 emptyBytes = record {
   clusters = 0;
   clients = 0;
   cap = 0;
   tidy = 0;
+  timed = false;
   sizes = table maxClusters (λ (k : ℕ). 0);
   kinds = table maxClients (λ (c : ℕ). 0);
   homes = table maxClients (λ (c : ℕ). 0);

@@ -27,6 +27,7 @@ setupOf v = record {
   clients = v .clients;
   cap = v .cap;
   tidy = v .tidy;
+  timed = v .timed;
   size = λ (k : ℕ). getD (v .sizes) k 0;
   kind = λ (c : ℕ). getD (v .kinds) c 0;
   cluster = λ (c : ℕ). getD (v .homes) c 0;
@@ -53,6 +54,7 @@ stateOf g = record {
   server = serverOf (g .server);
   units = g .units;
   charge = λ (c : ℕ). getD (g .charges) c 0;
+  deadline = λ (c : ℕ). getD (g .deadlines) c 0;
 }
 
 -- SHOWN
@@ -92,4 +94,5 @@ shown v s = record {
   server = showServer (s .server);
   units = s .units;
   charges = table maxClients (s .charge);
+  deadlines = table maxClients (s .deadline);
 }

@@ -51,6 +51,7 @@ pub fn trimmed(s: Setup) -> Setup
         clients: s.clients,
         cap: s.cap,
         tidy: s.tidy,
+        timed: s.timed,
         sizes: sizes,
         kinds: kinds,
         homes: homes,
@@ -67,6 +68,7 @@ pub fn empty_setup() -> Setup
         clients: 0,
         cap: 0,
         tidy: 0,
+        timed: false,
         sizes: [0u8; 8],
         kinds: [0u8; 64],
         homes: [0u8; 64],
@@ -90,5 +92,6 @@ pub fn at_rest(s: Setup) -> Gate
         server: Server::Idle,
         units: 0,
         charges: [0u32; 64],
+        deadlines: [0u32; 64],
     }
 }

@@ -6,8 +6,8 @@ use mathlib.Core.Bool.{false}
 use mathlib.Core.Path.{_≡_, refl}
 use mathlib.Core.List.{List, [], _∷_, map}
 use lib.IntN.{ℤ, pos, negsuc}
-use Rattle.rules.specs.Limits.{maxClusters, maxSize, maxClients, maxCap, maxTidy, maxCharge, maxDeadline, unusedPlace}
-use Rattle.rules.specs.Limits.{maxWork, maxPeriod, maxLines, maxCalls}
+use Rattle.rules.specs.Limits.{maxClusters, maxSize, maxClients, maxCap, maxTidy, maxCharge, maxDeadline}
+use Rattle.rules.specs.Limits.{unusedPlace, maxWork, maxPeriod, maxLines, maxCalls}
 use Rattle.rules.specs.Refusals.{accepted, badClusters, noCap, manyClients, badSize, badRow, noClient}
 use Rattle.rules.specs.Refusals.{waitsAlready, serverIdle, runOfNone, runPastCap, notWaiting, bestEffort}
 use Rattle.rules.specs.Refusals.{spentAlready, unknownRecord, unsound, notTidying, logShort, badMark}

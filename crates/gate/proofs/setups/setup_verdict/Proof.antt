@@ -77,7 +77,8 @@ first-bad-row-requires c κs =
     let v = c .before .before .before .before .before .before .before .before .before in
     let s = v .before .before .before .before .before .before .args .s in
     let k : length (s .kinds) ≡ 64 = search needs in
-    let h : length (s .homes) ≡ 64 = search needs in
+    let far = v .before .before .before .before .before .before .good .0 .1 .1 .1 .1 .1 .1 .1 .1 .1 .0 .1 in
+    let h : length (s .homes) ≡ 64 = search (needs, far) in
     (omega (arith, v .wide2 .ensures), omega (arith, v .wide2 .ensures))
 
 returns-6 : tie.Need-returns-6
