@@ -4,3 +4,4 @@ pub mod SoundShows
 pub mod Turns
 pub mod Fits
 pub mod Parts
+pub mod Keys

@@ -12,7 +12,7 @@ use Rattle.rules.specs.Limits.{maxClients, maxClusters, maxSize, unusedPlace}
 use Rattle.rules.specs.Lists.{has, heads, remove, upd}
 use Rattle.rules.specs.State as rules
 use Rattle.rules.specs.State.{State}
-use Rattle.rules.specs.Changes.{withBackground, withCharge, withGlobal, withLine, withRoom, withServer}
+use Rattle.rules.specs.Changes.{withBackground, withCharge, withDeadline, withGlobal, withLine, withRoom, withServer}
 use Rattle.rules.proofs.Tests.{by-test, upd-at}
 use Rattle.sets.specs.Sets.{member, setOf}
 use Rattle.sets.proofs.Laws.{member-setOf, setOf-same, setOf-upd}
@@ -176,6 +176,10 @@ module _ {v : Setup} {s : State} {q : Queues} (h : ShowsQueues v s q) where
   shows-server e f =
       parts (h .lines) (h .rooms) (h .global) (h .background) (record { server = e; units = refl; fits = f })
 
-  -- the queues show nothing of the charges
+  -- the queues show nothing of the deadlines
+  pub shows-deadline : (f : ℕ → ℕ) → ShowsQueues v (withDeadline f s) q
+  shows-deadline f = parts (h .lines) (h .rooms) (h .global) (h .background) (h .service)
+
+  -- nor of the charges
   pub shows-charge : (f : ℕ → ℕ) → ShowsQueues v (withCharge f s) q
   shows-charge f = parts (h .lines) (h .rooms) (h .global) (h .background) (h .service)

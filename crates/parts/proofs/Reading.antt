@@ -39,10 +39,11 @@ show-server (Spent c) = refl
 show-server Tidying = refl
 
 -- gates are equal whose parts are
-pub same-gate : {a a′ : Setup} {b b′ : List Line} {c c′ d d′ e e′ : List ℕ} {f f′ : Server} {g g′ : ℕ} {h h′ : List ℕ}
-    → a ≡ a′ → b ≡ b′ → c ≡ c′ → d ≡ d′ → e ≡ e′ → f ≡ f′ → g ≡ g′ → h ≡ h′
-    → gateOf a (queues b c d e (service f g)) h ≡ gateOf a′ (queues b′ c′ d′ e′ (service f′ g′)) h′
-same-gate p q r s t u v w = rw (p, q, r, s, t, u, v, w)
+pub same-gate : {a a′ : Setup} {b b′ : List Line} {c c′ d d′ e e′ : List ℕ} {f f′ : Server} {g g′ : ℕ}
+    {h h′ i i′ : List ℕ}
+    → a ≡ a′ → b ≡ b′ → c ≡ c′ → d ≡ d′ → e ≡ e′ → f ≡ f′ → g ≡ g′ → h ≡ h′ → i ≡ i′
+    → gateOf a (queues b c d e (service f g)) h i ≡ gateOf a′ (queues b′ c′ d′ e′ (service f′ g′)) h′ i′
+same-gate p q r s t u v w x = rw (p, q, r, s, t, u, v, w, x)
 
 -- a gate that shows a state is the shown one
 pub shows-is : (v : Setup) (s : State) (g : Gate) → Shows v s g → g ≡ shown v s
@@ -51,6 +52,7 @@ shows-is v s g h =
     let q = h .queues in
     same-gate (h .setup) (q .lines .places) (q .rooms) (q .global .places) (q .background .places)
     (sym (show-server (g .server)) ∙ ap showServer (q .service .server)) (q .service .units) (h .charges)
+    (h .deadlines)
 
 -- queues that show the same are the same
 pub one-queues : {v : Setup} {s : State} (p q : Queues) → ShowsQueues v s p → ShowsQueues v s q → p ≡ q
@@ -99,6 +101,14 @@ module _ (v : Setup) (s : State) (g : Gate) (h : Shows v s g) (w : Within s) whe
       let past = ltb-false c maxClients e in
       rw (h .charges) (table-past maxClients (s .charge) c 0 past ∙ sym (w .charge c past)))
 
+  deadline-back : (c : ℕ) → getD (g .deadlines) c 0 ≡ s .deadline c
+  deadline-back c =
+      by-test (ltb c maxClients)
+      (λ e. rw (h .deadlines) (table-at maxClients (s .deadline) c 0 (ltb-true c maxClients e)))
+      (λ e.
+      let past = ltb-false c maxClients e in
+      rw (h .deadlines) (table-past maxClients (s .deadline) c 0 past ∙ sym (w .deadline c past)))
+
   room-back : (c : ℕ) → ltb c maxClients && member (getD (g .rooms) (getD (g .setup .homes) c 0) 0) c ≡ s .room c
   room-back c =
       by-test (ltb c maxClients)
@@ -122,13 +132,33 @@ module _ (v : Setup) (s : State) (g : Gate) (h : Shows v s g) (w : Within s) whe
       (list-back (h .queues .global))
       (list-back (h .queues .background))
       (h .queues .service .server) (h .queues .service .units) (fun-ext charge-back)
+      (fun-ext deadline-back)
     where
-      same : {a a′ : ℕ → List ℕ} {b b′ : ℕ → Bool} {c c′ d d′ : List ℕ} {e e′ : rules.Server} {f f′ : ℕ} {x x′ : ℕ → ℕ}
-          → a ≡ a′ → b ≡ b′ → c ≡ c′ → d ≡ d′ → e ≡ e′ → f ≡ f′ → x ≡ x′
+      same : {a a′ : ℕ → List ℕ} {b b′ : ℕ → Bool} {c c′ d d′ : List ℕ} {e e′ : rules.Server} {f f′ : ℕ}
+          {x x′ y y′ : ℕ → ℕ}
+          → a ≡ a′ → b ≡ b′ → c ≡ c′ → d ≡ d′ → e ≡ e′ → f ≡ f′ → x ≡ x′ → y ≡ y′
           → _≡_ {A = State}
-          (record { lines = a; room = b; global = c; background = d; server = e; units = f; charge = x })
-          (record { lines = a′; room = b′; global = c′; background = d′; server = e′; units = f′; charge = x′ })
-      same p q r s t u v = rw (p, q, r, s, t, u, v)
+          (record {
+            lines = a;
+            room = b;
+            global = c;
+            background = d;
+            server = e;
+            units = f;
+            charge = x;
+            deadline = y;
+          })
+          (record {
+            lines = a′;
+            room = b′;
+            global = c′;
+            background = d′;
+            server = e′;
+            units = f′;
+            charge = x′;
+            deadline = y′;
+          })
+      same p q r s t u v w = rw (p, q, r, s, t, u, v, w)
 
 -- SHOWING WHAT IS READ
 
@@ -154,6 +184,7 @@ pub record LaidOut (g : Gate) : Type 0 where
   pub background : Laid maxClients (g .background)
   pub server : ServerFits (serverOf (g .server))
   pub charges : length (g .charges) ≡ maxClients
+  pub deadlines : length (g .deadlines) ≡ maxClients
 
 laid-pad : (n : ℕ) (q : List ℕ) → Laid n q → q ≡ pad n (unpad q)
 laid-pad n q h = sym (rw (h .size) at (pad-unpad q (h .first)))
@@ -214,6 +245,8 @@ module _ (g : Gate) (h : LaidOut g) where
           service = record { server = refl; units = refl; fits = h .server };
         };
         charges = list-table (g .charges) 0 ∙ ap (λ n. table n (λ (c : ℕ). getD (g .charges) c 0)) (h .charges);
+        deadlines = list-table (g .deadlines) 0
+            ∙ ap (λ n. table n (λ (c : ℕ). getD (g .deadlines) c 0)) (h .deadlines);
       }
     where
       past : (k : ℕ) → maxClusters ≤ k → getD (g .lines) k blankLine ≡ blankLine

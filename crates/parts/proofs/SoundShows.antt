@@ -14,7 +14,8 @@ use Rattle.rules.specs.Setup.{Accepted, Trimmed}
 use Rattle.rules.specs.State as state
 use Rattle.rules.specs.State.{State, idle, front, best, spent, tidying, fresh}
 use Rattle.rules.specs.Sound.{Sound, ServerSound}
-use Rattle.rules.proofs.Tests.{by-test, not-so}
+use Rattle.rules.specs.Queues.{waits}
+use Rattle.rules.proofs.Tests.{by-test, not-so, either-true}
 use Rattle.rules.proofs.Lists.{heads-has, distinct-right}
 use Rattle.rules.proofs.Images.{map-has}
 use Rattle.rules.proofs.Counts.{distinct-below}
@@ -57,6 +58,12 @@ module _ (v : Setup) where
 
     known : (c : ℕ) → c < v .clients → c < maxClients
     known c b = omega (arith, fine .clients)
+
+    -- whoever waits is a client
+    pub waiting-known : (c : ℕ) → waits (setupOf v) s c ≡ true → c < maxClients
+    waiting-known c e =
+        either-true (has c (s .lines (setupOf v .cluster c))) (s .room c) e
+        (λ w. known c (h .lines (setupOf v .cluster c) .known c w)) (λ w. known c (h .room c w .known))
 
     -- each cluster has at most one turn
     global-short : length (s .global) ≤ maxClusters
@@ -122,6 +129,7 @@ module _ (v : Setup) where
             };
           };
           charges = refl;
+          deadlines = refl;
         }
 
     pub sound-within : Within s
@@ -130,6 +138,8 @@ module _ (v : Setup) where
           lines = λ k b. h .lines-past k (omega (arith, allowed (setupOf v) (h .setup) .few-clusters));
           room = λ c b. not-so (s .room c) (λ e. omega (arith, known c (h .room c e .known)));
           charge = λ c b. h .charge c .past (omega (arith, fine .clients));
+          deadline = λ c b. h .deadline c .away (not-so (waits (setupOf v) s c) (λ e.
+              omega (arith, waiting-known c e)));
         }
 
     -- reading what is shown gives the state back

@@ -1,6 +1,7 @@
--- A gate's parts: the setup, the queues with the one in service, the charges; and the gate of them.
+-- A gate's parts: the setup, the queues with the one in service, the charges, the deadlines; and the gate of them.
 -- Assumes nothing.
 use Prim.Native.Nat.{ℕ}
+use mathlib.Core.Bool.{Bool, cond}
 use mathlib.Core.List.{List}
 use lib.ListN.{set}
 use Rattle.gate.specs.declared.Line.{Line}
@@ -9,6 +10,8 @@ use Rattle.parts.specs.declared.Service.{Service}
 use Rattle.gate.specs.declared.Setup.{Setup}
 use Rattle.parts.specs.declared.Queues.{Queues}
 use Rattle.gate.specs.declared.Gate.{Gate}
+use Rattle.gate.specs.Shown.{table}
+use Rattle.rules.specs.Limits.{maxClients}
 
 abbrev pub service : Server → ℕ → Service
 service x n = record { server = x; units = n }
@@ -16,24 +19,11 @@ service x n = record { server = x; units = n }
 abbrev pub queues : List Line → List ℕ → List ℕ → List ℕ → Service → Queues
 queues ls rs gl bg y = record { lines = ls; rooms = rs; global = gl; background = bg; service = y }
 
--- the setup of K, N, L, W and the columns of the table
-abbrev pub setupWith : ℕ → ℕ → ℕ → ℕ → List ℕ → List ℕ → List ℕ → List ℕ → Setup
-setupWith k n l w ms ts hs ps = record {
-  clusters = k;
-  clients = n;
-  cap = l;
-  tidy = w;
-  sizes = ms;
-  kinds = ts;
-  homes = hs;
-  priorities = ps;
-}
-
 abbrev pub queuesOf : Gate → Queues
 queuesOf g = queues (g .lines) (g .rooms) (g .global) (g .background) (service (g .server) (g .units))
 
-abbrev pub gateOf : Setup → Queues → List ℕ → Gate
-gateOf v q cs = record {
+abbrev pub gateOf : Setup → Queues → List ℕ → List ℕ → Gate
+gateOf v q cs ds = record {
   setup = v;
   lines = q .lines;
   rooms = q .rooms;
@@ -42,7 +32,18 @@ gateOf v q cs = record {
   server = q .service .server;
   units = q .service .units;
   charges = cs;
+  deadlines = ds;
 }
+
+-- THE KEYS
+
+-- what each client's rank goes by: the deadlines, or else the priorities
+abbrev pub keysIn : Bool → List ℕ → List ℕ → List ℕ
+keysIn timed ps ds = cond timed ds ps
+
+-- the deadlines in such a column: under priorities all are 0
+abbrev pub deadlinesIn : Bool → List ℕ → List ℕ
+deadlinesIn timed ks = cond timed ks (table maxClients (λ (c : ℕ). 0))
 
 -- THE QUEUES WITH ONE PART CHANGED
 

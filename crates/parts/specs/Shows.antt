@@ -2,13 +2,14 @@
 -- Assumes nothing.
 use Prim.Native.Nat.{ℕ, _≤_, _<_}
 use mathlib.Core.Path.{_≡_}
-use mathlib.Core.Bool.{Bool, true, false}
+use mathlib.Core.Bool.{true, false}
 use mathlib.Core.List.{List, []}
 use lib.ListN.{length, getD}
 use Rattle.rules.specs.Limits.{maxClusters, maxSize, maxClients}
 use Rattle.rules.specs.Lists.{has}
 use Rattle.rules.specs.Setup as rules-setup
 use Rattle.rules.specs.State as rules
+use Rattle.rules.specs.Rank.{level}
 use Rattle.rules.specs.State.{State, idle, front, best, spent, tidying}
 use Rattle.places.specs.Places.{pad}
 use Rattle.gate.specs.declared.Line.{Line}
@@ -32,11 +33,15 @@ pub record Fine (v : Setup) : Type 0 where
   pub sizes : (k : ℕ) → setupOf v .size k ≤ maxSize
   pub homes : (c : ℕ) → setupOf v .cluster c < maxClusters
 
--- what a refill reads of the table is v's, and whoever is in a waiting room is a client
-pub record Refills (v : Setup) (room : ℕ → Bool) (ms ps : List ℕ) : Type 0 where
+-- the keys ks are what each client's rank goes by in the state s: the deadline of its wait, or its priority
+pub record ShowsKeys (v : Setup) (s : State) (ks : List ℕ) : Type 0 where
+  pub key : (c : ℕ) → getD ks c 0 ≡ level (setupOf v) s c
+
+-- what a refill reads is v's and the state's, and whoever is in a waiting room is a client
+pub record Refills (v : Setup) (s : State) (ms ks : List ℕ) : Type 0 where
   pub sizes : ms ≡ v .sizes
-  pub priorities : ps ≡ v .priorities
-  pub known : (c : ℕ) → room c ≡ true → c < v .clients
+  pub keys : ShowsKeys v s ks
+  pub known : (c : ℕ) → s .room c ≡ true → c < v .clients
 
 -- THE QUEUES
 
@@ -83,12 +88,14 @@ pub record Shows (v : Setup) (s : State) (g : Gate) : Type 0 where
   pub setup : g .setup ≡ v
   pub queues : ShowsQueues v s (queuesOf g)
   pub charges : g .charges ≡ table maxClients (s .charge)
+  pub deadlines : g .deadlines ≡ table maxClients (s .deadline)
 
 -- nothing lies past the places
 pub record Within (s : State) : Type 0 where
   pub lines : (k : ℕ) → maxClusters ≤ k → s .lines k ≡ []
   pub room : (c : ℕ) → maxClients ≤ c → s .room c ≡ false
   pub charge : (c : ℕ) → maxClients ≤ c → s .charge c ≡ 0
+  pub deadline : (c : ℕ) → maxClients ≤ c → s .deadline c ≡ 0
 
 -- WHAT A FUNCTION ON PARTS PROMISES
 
