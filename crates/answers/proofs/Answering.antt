@@ -8,11 +8,11 @@ use Rattle.rules.specs.Events.{Event}
 use Rattle.rules.specs.Limits.{maxClients}
 use Rattle.rules.specs.Refusals.{accepted}
 use Rattle.rules.specs.State.{State}
-use Rattle.rules.specs.Step.{answer, next, step}
+use Rattle.rules.specs.Step.{stepBy, answer, next}
 use Rattle.rules.specs.Records.{Heard, known, answerOf}
 use Rattle.rules.proofs.Theorems.{refused-same}
 use Rattle.gate.specs.Shown.{setupOf, table}
-use Rattle.parts.specs.Shows.{Fine, ShowsQueues}
+use Rattle.parts.specs.Shows.{Fine, ShowsKeys, ShowsQueues}
 use Rattle.parts.specs.declared.Queues.{Queues}
 use Rattle.gate.specs.declared.Setup.{Setup}
 use Rattle.parts.proofs.SoundShows.{accepted-fine}
@@ -20,21 +20,26 @@ use Rattle.answers.specs.Answers.{Answers, Holds, numberOf}
 use Rattle.answers.specs.declared.Answer.{Answer}
 use Rattle.answers.specs.declared.Answer.the-variants as is
 
-module _ {v : Setup} {s : State} {q : Queues} {cs : List ℕ} (h : Holds v s q cs) where
+module _ {v : Setup} {s : State} {q : Queues} {cs ks : List ℕ} (h : Holds v s q cs ks) where
   pub fine : Fine v
   fine = accepted-fine v (h .sound .setup) (h .sound .trimmed)
 
   pub refuses : (x : Heard) (a : Answer) → answerOf (setupOf v) s x ≡ numberOf a → (numberOf a ≡ accepted → ⊥)
-      → Answers v s x (record { answer = a; queues = q }) cs
+      → Answers v s x (record { answer = a; queues = q }) cs ks
   refuses x a z n =
       let same = refused-same (setupOf v) s x (λ y. n (sym z ∙ y)) in
-      record { number = sym z; queues = rw same (h .queues); charges = rw same (h .charges) }
+      record {
+        number = sym z;
+        queues = rw same (h .queues);
+        charges = rw same (h .charges);
+        keys = rw same (h .keys);
+      }
 
 -- an accepted event
-pub accepts : {v : Setup} {s : State} (e : Event) {r : Queues} {cs : List ℕ} → answer (setupOf v) s e ≡ accepted
+pub accepts : {v : Setup} {s : State} (e : Event) {r : Queues} {cs ks : List ℕ} → answer (setupOf v) s e ≡ accepted
     → ShowsQueues v (next (setupOf v) s e) r → cs ≡ table maxClients (next (setupOf v) s e .charge)
-    → Answers v s (known e) (record { answer = is.Accepted; queues = r }) cs
-unfolding step
-accepts {v} {s} e z h f =
+    → ShowsKeys v (next (setupOf v) s e) ks → Answers v s (known e) (record { answer = is.Accepted; queues = r }) cs ks
+unfolding stepBy
+accepts {v} {s} e z h f k =
     let w = eq-eqb (answer (setupOf v) s e) accepted z in
-    record { number = sym z; queues = rw w h; charges = rw w f }
+    record { number = sym z; queues = rw w h; charges = rw w f; keys = rw w k }

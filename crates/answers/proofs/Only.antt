@@ -5,6 +5,7 @@ use mathlib.Core.Bool.{cond}
 use mathlib.Core.List.{List}
 use mathlib.Core.Path.{_∙_, _≡_, ap, ap₂, refl, sym}
 use lib.Dec.{eqb}
+use lib.ListN.{getD}
 use Rattle.rules.specs.Records.{Heard}
 use Rattle.rules.specs.Refusals.{accepted, bestEffort, noClient, notWaiting, runOfNone, runPastCap, serverIdle}
 use Rattle.rules.specs.Refusals.{spentAlready, unknownRecord, unsound, waitsAlready}
@@ -52,11 +53,12 @@ number-back is.NotTidying = refl
 pub one-answer : (a b : Answer) → numberOf a ≡ numberOf b → a ≡ b
 one-answer a b e = sym (number-back a) ∙ ap answerFor e ∙ number-back b
 
-pub one-result : {v : Setup} {s : State} {x : Heard} (r t : Outcome) {cs ds : List ℕ} → Answers v s x r cs
-    → Answers v s x t ds → (r ≡ t) × (cs ≡ ds)
+pub one-result : {v : Setup} {s : State} {x : Heard} (r t : Outcome) {cs ds ks ls : List ℕ} → Answers v s x r cs ks
+    → Answers v s x t ds ls → (r ≡ t) × (cs ≡ ds) × ((c : ℕ) → getD ks c 0 ≡ getD ls c 0)
 one-result r t h k = (
   ap₂ (λ (a : Answer) (q : Queues). record { answer = a; queues = q })
       (one-answer (r .answer) (t .answer) (h .number ∙ sym (k .number)))
       (one-queues (r .queues) (t .queues) (h .queues) (k .queues)),
   h .charges ∙ sym (k .charges),
+  λ c. h .keys .key c ∙ sym (k .keys .key c),
 )

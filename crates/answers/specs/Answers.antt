@@ -13,7 +13,7 @@ use Rattle.rules.specs.Sound.{Sound}
 use Rattle.gate.specs.declared.Setup.{Setup}
 use Rattle.parts.specs.declared.Queues.{Queues}
 use Rattle.gate.specs.Shown.{setupOf, table}
-use Rattle.parts.specs.Shows.{ShowsQueues}
+use Rattle.parts.specs.Shows.{ShowsKeys, ShowsQueues}
 use Rattle.answers.specs.declared.Answer.{Answer}
 use Rattle.answers.specs.declared.Answer.the-variants as is
 use Rattle.answers.specs.declared.Outcome.{Outcome}
@@ -33,23 +33,26 @@ numberOf is.Unknown = unknownRecord
 numberOf is.Unsound = unsound
 numberOf is.NotTidying = notTidying
 
--- The parts of a gate of setup v that show the sound state s.
-pub record Holds (v : Setup) (s : State) (q : Queues) (cs : List ℕ) : Type 0 where
+-- The parts of a gate of setup v, with the charges cs and the keys ks, that show the sound state s.
+pub record Holds (v : Setup) (s : State) (q : Queues) (cs ks : List ℕ) : Type 0 where
   pub queues : ShowsQueues v s q
   pub charges : cs ≡ table maxClients (s .charge)
+  pub keys : ShowsKeys v s ks
   pub sound : Sound (setupOf v) s
 
--- r answers what is heard as the rules do in the state s, and its queues, with the charges cs, show the state after.
-pub record Answers (v : Setup) (s : State) (x : Heard) (r : Outcome) (cs : List ℕ) : Type 0 where
+-- r answers what is heard as the rules do in the state s, and its queues, with the charges cs and the keys ks, show the
+-- state after.
+pub record Answers (v : Setup) (s : State) (x : Heard) (r : Outcome) (cs ks : List ℕ) : Type 0 where
   pub number : numberOf (r .answer) ≡ answerOf (setupOf v) s x
   pub queues : ShowsQueues v (stepOf (setupOf v) s x) (r .queues)
   pub charges : cs ≡ table maxClients (stepOf (setupOf v) s x .charge)
+  pub keys : ShowsKeys v (stepOf (setupOf v) s x) ks
 
--- So it is in every sound state that the queues q and charges cs show, of a setup of which p holds; cs′ are the charges
--- after.
-abbrev pub Hearing : (Setup → Type 0) → Heard → Queues → List ℕ → Outcome → List ℕ → Type 0
-Hearing p x q cs r cs′ = (v : Setup) (s : State) → p v → Holds v s q cs → Answers v s x r cs′
+-- So it is in every sound state that the queues q, charges cs and keys ks show, of a setup of which p holds; cs′ and ks′
+-- are the charges and keys after.
+abbrev pub Hearing : (Setup → Type 0) → Heard → Queues → List ℕ → List ℕ → Outcome → List ℕ → List ℕ → Type 0
+Hearing p x q cs ks r cs′ ks′ = (v : Setup) (s : State) → p v → Holds v s q cs ks → Answers v s x r cs′ ks′
 
 -- The promise of an event's function.
-abbrev pub Answering : (Setup → Type 0) → Event → Queues → List ℕ → Outcome → List ℕ → Type 0
+abbrev pub Answering : (Setup → Type 0) → Event → Queues → List ℕ → List ℕ → Outcome → List ℕ → List ℕ → Type 0
 Answering p e = Hearing p (known e)

@@ -4,7 +4,8 @@ use parts::Queues;
 ghost use mathlib.Core.Path.{_≡_};
 ghost use Rattle.answers.specs.Answers.{numberOf};
 
-// What an event answers. Unknown is for a record that is no event: it comes before there is an event to do.
+// What an event answers. Unknown is for an invoke without the form that its setup calls for, and for a record that is
+// no event.
 pub enum Answer {
     Accepted,
     NoClient,

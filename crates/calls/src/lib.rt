@@ -1,9 +1,11 @@
 // Invoke, reply, ready and abort on a gate's parts. Each answers as the rules do, and leaves the parts that show the
-// state after: a refused event leaves them as they were. Only invoke has to do with the charges.
+// state after: a refused event leaves them as they were. Only invoke has to do with the charges. A wait's deadline comes
+// with its invoke, and goes with its reply or abort.
 
 use answers::Answer;
 use answers::Outcome;
 use gate::Client;
+use gate::Server;
 use parts::Queues;
 ghost use mathlib.Core.Path.{_≡_};
 ghost use mathlib.Core.Bool.{cond};
@@ -17,37 +19,82 @@ ghost use Rattle.rules.specs.Records.{replyReady};
 ghost use Rattle.gate.specs.Shown.{serverOf};
 ghost use Rattle.parts.specs.Shows.{Homes, ServerFits};
 ghost use Rattle.answers.specs.Answers.{Hearing, Answering};
+ghost use Rattle.calls.specs.Due.{formIn, dueIn, repliedIn};
+
+// DEADLINES
+
+// The deadline of c, where clients go by deadlines; priorities stay.
+fn due(keys: &mut [u32; 64], timed: bool, c: Client, deadline: u32)
+    requires { ⌜ c .0 < maxClients ⌝ }
+    ensures { λ _. ⌜ now (keys .exit) ≡ dueIn timed (c .0) deadline (now (keys .entry)) ⌝ }
+{
+    if timed {
+        keys[rows::index(c)] = deadline;
+    }
+}
+
+// Of those in service only a front waits: its reply ends its wait.
+fn replied(keys: &mut [u32; 64], timed: bool, server: Server)
+    requires { ⌜ ServerFits (serverOf server) ⌝ }
+    ensures { λ _. ⌜ now (keys .exit) ≡ repliedIn timed (serverOf server) (now (keys .entry)) ⌝ }
+{
+    if serving::as_front(server) {
+        due(keys, timed, serving::served(server), 0);
+    }
+}
 
 // INVOKE
 
-// The charge of a real-time client becomes 0.
-fn begun(charges: &mut [u32; 64], kinds: &[u8; 64], c: Client)
+// A wait of a real-time client begins: its charge becomes 0, and its deadline is fixed.
+fn begun(
+    charges: &mut [u32; 64],
+    keys: &mut [u32; 64],
+    kinds: &[u8; 64],
+    timed: bool,
+    c: Client,
+    deadline: u32,
+)
     requires { ⌜ c .0 < maxClients ⌝ }
     ensures { λ _.
         ⌜ now (charges .exit) ≡ cond (eqb (getD (now (kinds .entry)) (c .0) 0) 0)
         (set (now (charges .entry)) (c .0) 0) (now (charges .entry)) ⌝ }
+    ensures { λ _.
+        ⌜ now (keys .exit) ≡ cond (eqb (getD (now (kinds .entry)) (c .0) 0) 0)
+        (dueIn timed (c .0) deadline (now (keys .entry))) (now (keys .entry)) ⌝ }
 {
     if rows::is_real_time(kinds, c) {
         charging::reset(charges, c);
+        due(keys, timed, c, deadline);
     }
 }
 
-// Invoke c: 10, 11.
+// Invoke c, with a deadline or without: 18 for the other form, 10, 11.
 pub fn invoke<'a>(
     q: Queues,
     kinds: &'a [u8; 64],
     homes: &'a [u8; 64],
     sizes: &'a [u8; 8],
     clients: usize,
+    timed: bool,
     charges: &mut [u32; 64],
+    keys: &mut [u32; 64],
     c: Client,
+    dated: bool,
+    deadline: u32,
 ) -> Outcome
     requires { ⌜ Homes (now homes) × (clients ≤ maxClients) ⌝ }
     ensures { λ r.
         ⌜ Answering (λ v. (now (kinds .entry) ≡ v .kinds) × (now (homes .entry) ≡ v .homes)
-        × (now (sizes .entry) ≡ v .sizes) × (clients ≡ v .clients))
-        (rules.invoke (c .0)) q (now (charges .entry)) r (now (charges .exit)) ⌝ }
+        × (now (sizes .entry) ≡ v .sizes) × (clients ≡ v .clients) × (timed ≡ v .timed))
+        (rules.invoke (c .0) (formIn dated deadline)) q (now (charges .entry)) (now (keys .entry)) r
+        (now (charges .exit)) (now (keys .exit)) ⌝ }
 {
+    if dated != timed {
+        return Outcome {
+            answer: Answer::Unknown,
+            queues: q,
+        };
+    }
     if clients <= rows::index(c) {
         return Outcome {
             answer: Answer::NoClient,
@@ -65,7 +112,7 @@ pub fn invoke<'a>(
             queues: q,
         };
     }
-    begun(charges, kinds, c);
+    begun(charges, keys, kinds, timed, c, deadline);
     let n = entering::invoked(q, kinds, homes, sizes, c);
     Outcome {
         answer: Answer::Accepted,
@@ -80,12 +127,14 @@ pub fn reply<'a>(
     q: Queues,
     homes: &'a [u8; 64],
     sizes: &'a [u8; 8],
-    priorities: &'a [u16; 64],
+    timed: bool,
+    keys: &mut [u32; 64],
 ) -> Outcome
     requires { ⌜ ServerFits (serverOf (q .service .server)) × Homes (now homes) ⌝ }
     ensures { λ r.
         ⌜ ((cs : List ℕ) → Answering (λ v. (now (homes .entry) ≡ v .homes)
-        × (now (sizes .entry) ≡ v .sizes) × (now (priorities .entry) ≡ v .priorities)) rules.reply q cs r cs) ⌝ }
+        × (now (sizes .entry) ≡ v .sizes) × (timed ≡ v .timed)) rules.reply q cs (now (keys .entry)) r cs
+        (now (keys .exit))) ⌝ }
 {
     let y = q.service;
     let server = y.server;
@@ -95,7 +144,8 @@ pub fn reply<'a>(
             queues: q,
         };
     }
-    let n = leaving::replied(q, homes, sizes, priorities);
+    let n = leaving::replied(q, homes, sizes, keys);
+    replied(keys, timed, server);
     Outcome {
         answer: Answer::Accepted,
         queues: n,
@@ -107,12 +157,14 @@ pub fn reply_ready<'a>(
     q: Queues,
     homes: &'a [u8; 64],
     sizes: &'a [u8; 8],
-    priorities: &'a [u16; 64],
+    timed: bool,
+    keys: &mut [u32; 64],
 ) -> Outcome
     requires { ⌜ ServerFits (serverOf (q .service .server)) × Homes (now homes) ⌝ }
     ensures { λ r.
         ⌜ ((cs : List ℕ) → Hearing (λ v. (now (homes .entry) ≡ v .homes)
-        × (now (sizes .entry) ≡ v .sizes) × (now (priorities .entry) ≡ v .priorities)) replyReady q cs r cs) ⌝ }
+        × (now (sizes .entry) ≡ v .sizes) × (timed ≡ v .timed)) replyReady q cs (now (keys .entry)) r cs
+        (now (keys .exit))) ⌝ }
 {
     let y = q.service;
     let server = y.server;
@@ -122,7 +174,8 @@ pub fn reply_ready<'a>(
             queues: q,
         };
     }
-    let left = leaving::replied(q, homes, sizes, priorities);
+    let left = leaving::replied(q, homes, sizes, keys);
+    replied(keys, timed, server);
     let next = moves::picked(left);
     Outcome {
         answer: Answer::Accepted,
@@ -132,7 +185,7 @@ pub fn reply_ready<'a>(
 
 // Ready: 26.
 pub fn ready(q: Queues) -> Outcome
-    ensures { λ r. ⌜ ((cs : List ℕ) → Answering (λ v. Unit) rules.ready q cs r cs) ⌝ }
+    ensures { λ r. ⌜ ((cs ks : List ℕ) → Answering (λ v. Unit) rules.ready q cs ks r cs ks) ⌝ }
 {
     let y = q.service;
     let server = y.server;
@@ -155,15 +208,16 @@ pub fn abort<'a>(
     kinds: &'a [u8; 64],
     homes: &'a [u8; 64],
     sizes: &'a [u8; 8],
-    priorities: &'a [u16; 64],
     clients: usize,
+    timed: bool,
+    keys: &mut [u32; 64],
     c: Client,
 ) -> Outcome
     requires { ⌜ Homes (now homes) × (clients ≤ maxClients) ⌝ }
     ensures { λ r.
         ⌜ ((cs : List ℕ) → Answering (λ v. (now (kinds .entry) ≡ v .kinds) × (now (homes .entry) ≡ v .homes)
-        × (now (sizes .entry) ≡ v .sizes) × (now (priorities .entry) ≡ v .priorities) × (clients ≡ v .clients))
-        (rules.abort (c .0)) q cs r cs) ⌝ }
+        × (now (sizes .entry) ≡ v .sizes) × (clients ≡ v .clients) × (timed ≡ v .timed))
+        (rules.abort (c .0)) q cs (now (keys .entry)) r cs (now (keys .exit))) ⌝ }
 {
     if clients <= rows::index(c) {
         return Outcome {
@@ -196,7 +250,8 @@ pub fn abort<'a>(
             queues: q,
         };
     }
-    let n = leaving::aborted(q, homes, sizes, priorities, c);
+    let n = leaving::aborted(q, homes, sizes, keys, c);
+    due(keys, timed, c, 0);
     Outcome {
         answer: Answer::Accepted,
         queues: n,

@@ -112,7 +112,7 @@ module _ (u : Setup) where
   reply-ends s a = rw a
 
   -- a pick leaves the deadlines
-  pick-dated : (t : State) → withDeadline (t .deadline) (pick t) ≡ pick t
+  pub pick-dated : (t : State) → withDeadline (t .deadline) (pick t) ≡ pick t
   unfolding pick
   pick-dated t = go (t .global) (t .background)
     where

@@ -1,77 +1,81 @@
--- What an event on a sound gate leaves: the rules' answer, and the shown form of the state after it, which is sound.
+-- What a record on a sound gate leaves: the rules' answer, and the shown form of the state after it.
 -- Assumes nothing.
-use Prim.Native.Nat.{ℕ, _≤_}
+use Prim.Native.Nat.{ℕ}
 use mathlib.Core.List.{List}
-use mathlib.Core.Path.{_≡_, refl, sym}
+use mathlib.Core.Path.{_≡_, refl}
 use mathlib.Core.Bool.{true, false}
 use lib.ListN.{length}
-use Rattle.rules.specs.Limits.{maxClients, maxClusters}
+use Rattle.rules.specs.Limits.{maxClients}
 use Rattle.rules.specs.Refusals.{unsound}
 use Rattle.rules.specs.State.{State}
-use Rattle.rules.specs.Records.{Heard, unknown, answerOf, stepOf}
+use Rattle.rules.specs.Sound.{Sound}
+use Rattle.rules.specs.Records.{Heard, stepOf}
 use Rattle.rules.proofs.Setups.{allowed}
 use Rattle.rules.proofs.Theorems.{sound-stays}
 use Rattle.gate.specs.declared.Gate.{Gate}
 use Rattle.parts.specs.declared.Queues.{Queues}
 use Rattle.gate.specs.declared.Setup.{Setup}
-use Rattle.parts.specs.Parts.{gateOf}
-use Rattle.gate.specs.Shown.{serverOf, setupOf, stateOf, shown}
-use Rattle.parts.specs.Shows.{Fine, Homes, ServerFits, Shows}
-use Rattle.parts.proofs.Reading.{laid-shows, shows-is, shown-back}
+use Rattle.parts.specs.Parts.{gateOf, keysIn, deadlinesIn}
+use Rattle.gate.specs.Shown.{setupOf, stateOf}
+use Rattle.parts.specs.Shows.{Shows}
+use Rattle.parts.proofs.Keys.{gate-keys, keys-deadlines}
+use Rattle.parts.proofs.Reading.{laid-shows, shows-is}
+use Rattle.parts.proofs.SoundShows.{accepted-fine}
 use Rattle.soundness.specs.Clauses.{soundOf}
-use Rattle.soundness.proofs.Exact.{passed-laid, passed-sound, shown-passes}
+use Rattle.soundness.proofs.Exact.{passed-laid, passed-sound}
 use Rattle.answers.specs.Answers.{numberOf, Answers, Holds}
 use Rattle.answers.specs.declared.Outcome.{Outcome}
-use Rattle.step.specs.Stepped.{toldIn, ruled, stepped, Stands, Steps}
+use Rattle.step.specs.Stepped.{Result, toldIn, ruled, stepped, Ranged}
 use Rattle.step.specs.declared.Answered.{Answered}
 
-module _ {v : Setup} {q : Queues} {cs : List ℕ} (h : Stands v q cs) where
+-- parts that show a sound state are in range
+pub in-range : {v : Setup} {s : State} {q : Queues} {cs ks : List ℕ} → Holds v s q cs ks
+    → length (v .homes) ≡ maxClients → Ranged (v .clusters) (v .clients) (v .homes) q
+in-range {v} h long =
+    let fine = accepted-fine v (h .sound .setup) (h .sound .trimmed) in
+    record {
+      clusters = allowed (setupOf v) (h .sound .setup) .few-clusters;
+      clients = fine .clients;
+      homes = record { rows = long; low = fine .homes };
+      server = rw (h .queues .service .server) (h .queues .service .fits);
+    }
+
+module _ (v : Setup) (q : Queues) (cs ds : List ℕ) (h : soundOf (gateOf v q cs ds) ≡ true) where
   -- the state that they show
   abbrev now : State
-  now = stateOf (gateOf v q cs)
+  now = stateOf (gateOf v q cs ds)
 
-  shows : Shows v now (gateOf v q cs)
-  shows = laid-shows (gateOf v q cs) (passed-laid (gateOf v q cs) (h .sound))
+  shows : Shows v now (gateOf v q cs ds)
+  shows = laid-shows (gateOf v q cs ds) (passed-laid (gateOf v q cs ds) h)
 
-  pub holds : Holds v now q cs
-  holds = record { queues = shows .queues; charges = shows .charges; sound = passed-sound (gateOf v q cs) (h .sound) }
+  sound : Sound (setupOf v) now
+  sound = passed-sound (gateOf v q cs ds) h
 
-  -- every index of the code is in its range
-  pub fine : Fine v
-  fine = shows .fine
-
-  pub few-clusters : v .clusters ≤ maxClusters
-  few-clusters = allowed (setupOf v) (holds .sound .setup) .few-clusters
-
-  pub homes : length (v .homes) ≡ maxClients → Homes (v .homes)
-  homes e = record { rows = e; low = fine .homes }
-
-  pub server : ServerFits (serverOf (q .service .server))
-  server = rw (shows .queues .service .server) (shows .queues .service .fits)
-
-  -- a gate by the rules is the step's, and sound
-  steps : (r : Outcome) (cs′ : List ℕ) (x : Heard) → numberOf (r .answer) ≡ answerOf (setupOf v) now x
-      → gateOf v (r .queues) cs′ ≡ shown v (stepOf (setupOf v) now x) → Steps v q cs x r cs′
-  unfolding stepped
-  steps r cs′ x n e = (
-    rw (h .sound, n, e),
-    record {
-      sound = rw e (shown-passes v (stepOf (setupOf v) now x)
-          (sound-stays (setupOf v) now x (holds .sound)));
-    },
-  )
+  pub holds : Holds v now q cs (keysIn (v .timed) (v .priorities) ds)
+  holds =
+      record {
+        queues = shows .queues;
+        charges = shows .charges;
+        keys = gate-keys (gateOf v q cs ds);
+        sound = sound;
+      }
 
   -- the promise of a function of what is heard, at these parts
-  pub answered : (r : Outcome) (cs′ : List ℕ) (x : Heard) → Answers v now x r cs′ → Steps v q cs x r cs′
-  answered r cs′ x a =
-      steps r cs′ x (a .number) (shows-is v (stepOf (setupOf v) now x) (gateOf v (r .queues) cs′)
-      (record { fine = fine; setup = refl; queues = a .queues; charges = a .charges }))
-
-  -- a record without an event
-  pub unheard : (r : Outcome) → numberOf (r .answer) ≡ answerOf (setupOf v) now unknown → r .queues ≡ q
-      → Steps v q cs unknown r cs
-  unheard r n e =
-      steps r cs unknown n (rw e (sym (shown-back (gateOf v q cs) (passed-laid (gateOf v q cs) (h .sound)))))
+  pub answered : (r : Outcome) (cs′ ks′ : List ℕ) (x : Heard) → length ks′ ≡ maxClients → Answers v now x r cs′ ks′
+      → _≡_ {A = Result}
+      (record { number = numberOf (r .answer); gate = gateOf v (r .queues) cs′ (deadlinesIn (v .timed) ks′) })
+      (stepped (gateOf v q cs ds) x)
+  unfolding stepped
+  answered r cs′ ks′ x long a =
+      let t = stepOf (setupOf v) now x in
+      let e = shows-is v t (gateOf v (r .queues) cs′ (deadlinesIn (v .timed) ks′)) (record {
+        fine = shows .fine;
+        setup = refl;
+        queues = a .queues;
+        charges = a .charges;
+        deadlines = keys-deadlines (sound-stays (setupOf v) now x sound) long (a .keys);
+      }) in
+      rw (h, a .number, e)
 
 -- a sound gate's step is the rules' own
 pub step-sound : (g : Gate) (x : Heard) → soundOf g ≡ true → stepped g x ≡ ruled g x

@@ -1,19 +1,19 @@
 -- A step of a gate: the number that it answers, and the gate after it.
 -- Assumes nothing.
-use Prim.Native.Nat.{ℕ}
-use mathlib.Core.Bool.{true, cond}
+use Prim.Native.Nat.{ℕ, _≤_}
+use mathlib.Core.Bool.{Bool, cond}
 use mathlib.Core.List.{List}
 use mathlib.Core.Path.{_≡_}
+use Rattle.rules.specs.Limits.{maxClients, maxClusters}
 use Rattle.rules.specs.Refusals.{unsound}
 use Rattle.rules.specs.Records.{Heard, answerOf, stepOf}
 use Rattle.gate.specs.declared.Setup.{Setup}
 use Rattle.parts.specs.declared.Queues.{Queues}
 use Rattle.gate.specs.declared.Gate.{Gate}
-use Rattle.parts.specs.Parts.{gateOf}
-use Rattle.gate.specs.Shown.{setupOf, stateOf, shown}
+use Rattle.gate.specs.Shown.{serverOf, setupOf, stateOf, shown}
+use Rattle.parts.specs.Shows.{Homes, ServerFits}
 use Rattle.soundness.specs.Clauses.{soundOf}
 use Rattle.answers.specs.Answers.{numberOf}
-use Rattle.answers.specs.declared.Outcome.{Outcome}
 use Rattle.step.specs.declared.Answered.{Answered}
 
 -- the number that a step answers, and the gate after it
@@ -38,13 +38,20 @@ stepped g x = cond (soundOf g) (ruled g x) (record { number = unsound; gate = g 
 
 -- ON PARTS
 
--- a sound gate's parts
-pub record Stands (v : Setup) (q : Queues) (cs : List ℕ) : Type 0 where
-  pub sound : soundOf (gateOf v q cs) ≡ true
+-- what the code asks of the parts, so that every index is in its range
+pub record Ranged (k n : ℕ) (homes : List ℕ) (q : Queues) : Type 0 where
+  pub clusters : k ≤ maxClusters
+  pub clients : n ≤ maxClients
+  pub homes : Homes homes
+  pub server : ServerFits (serverOf (q .service .server))
 
-abbrev pub toldOf : Setup → Outcome → List ℕ → Result
-toldOf v r cs = record { number = numberOf (r .answer); gate = gateOf v (r .queues) cs }
-
--- the outcome, with the charges cs′ after, is the step of the gate of these parts, and leaves a sound gate's
-abbrev pub Steps : Setup → Queues → List ℕ → Heard → Outcome → List ℕ → Type 0
-Steps v q cs x r cs′ = (toldOf v r cs′ ≡ stepped (gateOf v q cs) x) × Stands v (r .queues) cs′
+-- K, N, L, W, the kind of ranks and the columns of the table that are handed over are those of the setup v
+pub record Given (k n l w : ℕ) (t : Bool) (ms ts hs : List ℕ) (v : Setup) : Type 0 where
+  pub clusters : k ≡ v .clusters
+  pub clients : n ≡ v .clients
+  pub cap : l ≡ v .cap
+  pub tidy : w ≡ v .tidy
+  pub timed : t ≡ v .timed
+  pub sizes : ms ≡ v .sizes
+  pub kinds : ts ≡ v .kinds
+  pub homes : hs ≡ v .homes

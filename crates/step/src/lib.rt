@@ -12,13 +12,12 @@ use gate::heard_in;
 use parts::Queues;
 ghost use mathlib.Core.Path.{_≡_};
 ghost use mathlib.Core.Bool.{true};
-ghost use lib.ListN.{length};
-ghost use Rattle.rules.specs.Limits.{maxClients};
 ghost use Rattle.rules.specs.Records.{newest, known, heardOf};
 ghost use Rattle.gate.specs.Heard.{eventIn, heardIn};
-ghost use Rattle.parts.specs.Parts.{setupWith, gateOf};
+ghost use Rattle.parts.specs.Parts.{gateOf};
 ghost use Rattle.soundness.specs.Clauses.{soundOf};
-ghost use Rattle.step.specs.Stepped.{toldIn, stepped, Stands, Steps};
+ghost use Rattle.answers.specs.Answers.{Hearing};
+ghost use Rattle.step.specs.Stepped.{toldIn, stepped, Ranged, Given};
 
 // The answer, and the gate after.
 pub struct Answered {
@@ -35,35 +34,59 @@ pub fn sound_step<'a>(
     clients: u8,
     cap: u16,
     tidy: u16,
+    timed: bool,
     sizes: &'a [u8; 8],
     kinds: &'a [u8; 64],
     homes: &'a [u8; 64],
-    priorities: &'a [u16; 64],
     charges: &mut [u32; 64],
+    keys: &mut [u32; 64],
     e: Event,
 ) -> Outcome
-    requires { ⌜ length (now homes) ≡ maxClients ⌝ }
-    requires { ⌜ Stands (setupWith clusters clients cap tidy (now sizes) (now kinds) (now homes) (now priorities)) q
-        (now charges) ⌝ }
+    requires { ⌜ Ranged clusters clients (now homes) q ⌝ }
     ensures { λ r.
-        ⌜ Steps (setupWith clusters clients cap tidy (now (sizes .entry)) (now (kinds .entry)) (now (homes .entry))
-        (now (priorities .entry))) q (now (charges .entry)) (known (eventIn e)) r (now (charges .exit)) ⌝ }
+        ⌜ Hearing (Given clusters clients cap tidy timed (now (sizes .entry)) (now (kinds .entry)) (now (homes .entry)))
+        (known (eventIn e)) q (now (charges .entry)) (now (keys .entry)) r (now (charges .exit)) (now (keys .exit)) ⌝ }
 {
     let n = gate::wide(clients);
     match e {
-        Event::Invoke(c) => calls::invoke(q, kinds, homes, sizes, n, charges, c),
+        Event::Invoke(c) => calls::invoke(
+            q,
+            kinds,
+            homes,
+            sizes,
+            n,
+            timed,
+            charges,
+            keys,
+            c,
+            false,
+            0,
+        ),
+        Event::InvokeBy(c, d) => calls::invoke(
+            q,
+            kinds,
+            homes,
+            sizes,
+            n,
+            timed,
+            charges,
+            keys,
+            c,
+            true,
+            d,
+        ),
         Event::Run(t) => running::run(
             q,
             sizes,
-            priorities,
+            keys,
             gate::wide(clusters),
             cap,
             tidy,
             charges,
             t,
         ),
-        Event::Reply => calls::reply(q, homes, sizes, priorities),
-        Event::Abort(c) => calls::abort(q, kinds, homes, sizes, priorities, n, c),
+        Event::Reply => calls::reply(q, homes, sizes, timed, keys),
+        Event::Abort(c) => calls::abort(q, kinds, homes, sizes, n, timed, keys, c),
         Event::Ready => calls::ready(q),
     }
 }
@@ -75,19 +98,18 @@ pub fn sound_record<'a>(
     clients: u8,
     cap: u16,
     tidy: u16,
+    timed: bool,
     sizes: &'a [u8; 8],
     kinds: &'a [u8; 64],
     homes: &'a [u8; 64],
-    priorities: &'a [u16; 64],
     charges: &mut [u32; 64],
+    keys: &mut [u32; 64],
     h: Heard,
 ) -> Outcome
-    requires { ⌜ length (now homes) ≡ maxClients ⌝ }
-    requires { ⌜ Stands (setupWith clusters clients cap tidy (now sizes) (now kinds) (now homes) (now priorities)) q
-        (now charges) ⌝ }
+    requires { ⌜ Ranged clusters clients (now homes) q ⌝ }
     ensures { λ r.
-        ⌜ Steps (setupWith clusters clients cap tidy (now (sizes .entry)) (now (kinds .entry)) (now (homes .entry))
-        (now (priorities .entry))) q (now (charges .entry)) (heardIn h) r (now (charges .exit)) ⌝ }
+        ⌜ Hearing (Given clusters clients cap tidy timed (now (sizes .entry)) (now (kinds .entry)) (now (homes .entry)))
+        (heardIn h) q (now (charges .entry)) (now (keys .entry)) r (now (charges .exit)) (now (keys .exit)) ⌝ }
 {
     match h {
         Heard::Known(e) => sound_step(
@@ -96,14 +118,15 @@ pub fn sound_record<'a>(
             clients,
             cap,
             tidy,
+            timed,
             sizes,
             kinds,
             homes,
-            priorities,
             charges,
+            keys,
             e,
         ),
-        Heard::ReplyReady => calls::reply_ready(q, homes, sizes, priorities),
+        Heard::ReplyReady => calls::reply_ready(q, homes, sizes, timed, keys),
         Heard::Unknown => Outcome {
             answer: Answer::Unknown,
             queues: q,
@@ -112,27 +135,31 @@ pub fn sound_record<'a>(
 }
 
 // The same, with the gate put together after.
-fn joined_record(s: Setup, q: Queues, charges: [u32; 64], h: Heard) -> Answered
-    requires { ⌜ Stands s q charges ⌝ }
-    ensures { λ r. ⌜ toldIn r ≡ stepped (gateOf s q charges) (heardIn h) ⌝ }
+fn joined_record(s: Setup, q: Queues, charges: [u32; 64], deadlines: [u32; 64], h: Heard) -> Answered
+    requires { ⌜ soundOf (gateOf s q charges deadlines) ≡ true ⌝ }
+    ensures { λ r. ⌜ toldIn r ≡ stepped (gateOf s q charges deadlines) (heardIn h) ⌝ }
 {
     let mut after = charges;
+    let priorities = s.priorities;
+    let mut keys = parts::keys_of(s.timed, priorities, deadlines);
     let r = sound_record(
         q,
         s.clusters,
         s.clients,
         s.cap,
         s.tidy,
+        s.timed,
         &s.sizes,
         &s.kinds,
         &s.homes,
-        &s.priorities,
         &mut after,
+        &mut keys,
         h,
     );
     let answer = r.answer;
     let queues = r.queues;
-    let next = parts::gate_of(s, queues, after);
+    let due = parts::deadlines_of(s.timed, keys);
+    let next = parts::gate_of(s, queues, after, due);
     Answered {
         answer: answer,
         gate: next,
@@ -146,7 +173,8 @@ pub fn sound_heard(g: Gate, h: Heard) -> Answered
 {
     let s = g.setup;
     let charges = g.charges;
-    joined_record(s, parts::queues_of(g), charges, h)
+    let deadlines = g.deadlines;
+    joined_record(s, parts::queues_of(g), charges, deadlines, h)
 }
 
 // THE PUBLIC DOOR
@@ -171,9 +199,11 @@ pub fn step(g: Gate, e: Event) -> Answered
     step_heard(g, Heard::Known(e))
 }
 
-// A raw record, code and argument, as the newest logs have it, on any gate: 19 before 18.
-pub fn step_record(g: Gate, code: u8, argument: u16) -> Answered
-    ensures { λ r. ⌜ toldIn r ≡ stepped g (heardOf newest (record { code = code; argument = argument })) ⌝ }
+// A raw record, code, argument and deadline, as the newest logs have it, on any gate: 19 before 18.
+pub fn step_record(g: Gate, code: u8, argument: u16, deadline: u32) -> Answered
+    ensures { λ r. ⌜ toldIn r ≡ stepped g (heardOf newest (g .setup .timed) (record {
+        code = code; argument = argument; deadline = deadline })) ⌝ }
 {
-    step_heard(g, heard_in(NEWEST_VERSION, code, argument))
+    let s = g.setup;
+    step_heard(g, heard_in(NEWEST_VERSION, s.timed, code, argument, deadline))
 }

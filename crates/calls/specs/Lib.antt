@@ -1,0 +1,2 @@
+-- What becomes of the keys. Nothing is proved here.
+pub mod Due
