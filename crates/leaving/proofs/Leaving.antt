@@ -50,7 +50,11 @@ gone-global u rank c s =
 -- what a refill reads shows a state between too, with the same rooms and the same deadlines
 pub refills-kept : {v : Setup} {s t : State} {ms ks : List ℕ} → Refills v s ms ks → t .room ≡ s .room
     → t .deadline ≡ s .deadline → Refills v t ms ks
-refills-kept h r e = record { sizes = h .sizes; keys = keys-kept (h .keys) e; known = λ c q. h .known c (ap (λ f. f c) (sym r) ∙ q) }
+refills-kept h r e = record {
+  sizes = h .sizes;
+  keys = keys-kept (h .keys) e;
+  known = λ c q. h .known c (ap (λ f. f c) (sym r) ∙ q);
+}
 
 -- the rank of a state between is the one that the event read
 pub by-rank : {v : Setup} {r : Queues} (c : ℕ) (t s x : State) → s .deadline ≡ t .deadline

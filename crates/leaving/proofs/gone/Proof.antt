@@ -37,7 +37,8 @@ returns c =
     λ v s fine e h.
     let home = rw (e .0) at (c .before .before .before .before .home .ensures) in
     shows-gone home s
-    (c .refilled .ensures v (without (c .before .before .before .before .home .result .0) d s) fine (refills-kept (e .1) refl refl)
+    (c .refilled .ensures v (without (c .before .before .before .before .home .result .0) d s) fine
+    (refills-kept (e .1) refl refl)
     (rw (c .before .shorter .ensures, c .before .before .byte .ensures) (shows-without h home _)))
 
 pub gone-spec : {M : Type 1} → statement M
