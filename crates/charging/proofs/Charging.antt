@@ -24,22 +24,22 @@ use Rattle.sets.proofs.Laws.{member-setOf, setOf-same}
 use Rattle.sets.proofs.Words.{countOf-setOf}
 use Rattle.places.specs.Places.{unpad}
 use Rattle.gate.specs.Shown.{setupOf, showRooms}
-use Rattle.parts.specs.Shows.{ShowsLines}
+use Rattle.parts.specs.Shows.{ShowsKeys, ShowsLines}
 use Rattle.gate.specs.declared.Line.{Line}
 use Rattle.gate.specs.declared.Setup.{Setup}
 use Rattle.parts.proofs.Parts.{line-at, room-at}
 use Rattle.parts.proofs.Reading.{list-back}
 use Rattle.ranks.specs.Ranks.{bestIn, outrankingIn, rankBy}
-use Rattle.ranks.proofs.Ranks.{rank-is}
+use Rattle.ranks.proofs.Ranks.{rank-shown}
 use Rattle.charging.specs.Charged.{waitingIn}
 use Rattle.charging.proofs.Building.{union-all, union-next, union-none}
 
 -- those of the clusters below k, as the code makes the set
 abbrev pub chargedBelow : Line → List Line → List ℕ → List ℕ → List ℕ → ℕ → ℕ
-chargedBelow d ls rs ms ps zero = 0
-chargedBelow d ls rs ms ps (suc k) =
-    unionOf (chargedBelow d ls rs ms ps k)
-    (setOf maxClients (bestIn ps (waitingIn (getD ls k d .places) (getD rs k 0)) (getD ms k 0)))
+chargedBelow d ls rs ms ks zero = 0
+chargedBelow d ls rs ms ks (suc k) =
+    unionOf (chargedBelow d ls rs ms ks k)
+    (setOf maxClients (bestIn ks (waitingIn (getD ls k d .places) (getD rs k 0)) (getD ms k 0)))
 
 module _ (v : Setup) {s : State} (sound : Sound (setupOf v) s) where
   abbrev pub isCharged : ℕ → Bool
@@ -76,7 +76,7 @@ module _ (v : Setup) {s : State} (sound : Sound (setupOf v) s) where
       not-so (has c (s .lines k)) (λ q. eqb-false (setupOf v .cluster c) k e (sound .lines k .home c q)) in
       rw (e, out) (and-false (s .room c) ∙ sym (and-false (waits (setupOf v) s c))))
 
-  module _ {ls : List Line} {rs : List ℕ} (lines : ShowsLines (s .lines) ls)
+  module _ {ks : List ℕ} (keys : ShowsKeys v s ks) {ls : List Line} {rs : List ℕ} (lines : ShowsLines (s .lines) ls)
       (rooms : rs ≡ showRooms (setupOf v .cluster) (s .room)) (d : Line) where
     module _ (k : ℕ) (low : k < maxClusters) where
       abbrev waiting : ℕ
@@ -93,14 +93,14 @@ module _ (v : Setup) {s : State} (sound : Sound (setupOf v) s) where
 
       -- those who outrank c are as many among all numbers as among the clients
       outranking-is : (c : ℕ) → setupOf v .cluster c ≡ k
-          → countOf (outrankingIn (v .priorities) waiting c)
+          → countOf (outrankingIn ks waiting c)
           ≡ countBelow (precedes (setupOf v) (outranks (setupOf v) s) s c) (v .clients)
       outranking-is c e =
-          countOf-setOf maxClients (λ x. member waiting x && rankBy (v .priorities) x c) (omega arith)
+          countOf-setOf maxClients (λ x. member waiting x && rankBy ks x c) (omega arith)
           ∙ sym (count-cut (precedes (setupOf v) (outranks (setupOf v) s) s c)
-          (λ x. member waiting x && rankBy (v .priorities) x c) (v .clients) maxClients
+          (λ x. member waiting x && rankBy ks x c) (v .clients) maxClients
           (allowed (setupOf v) (sound .setup) .few-clients)
-          (λ x l. rw (rank-is v s, member-waiting x (known x l), e))
+          (λ x l. rw (← rank-shown keys, member-waiting x (known x l), e))
           (λ x l past. rw (
             member-waiting x l,
             not-so (waits (setupOf v) s x)
@@ -111,7 +111,7 @@ module _ (v : Setup) {s : State} (sound : Sound (setupOf v) s) where
           known x l = omega (arith, allowed (setupOf v) (sound .setup) .few-clients)
 
       charged-is : (c : ℕ) → c < maxClients
-          → bestIn (v .priorities) waiting (setupOf v .size k) c ≡ isCharged c && eqb (setupOf v .cluster c) k
+          → bestIn ks waiting (setupOf v .size k) c ≡ isCharged c && eqb (setupOf v .cluster c) k
       unfolding bestIn
       charged-is c b =
           rw (member-waiting c b)
@@ -128,18 +128,18 @@ module _ (v : Setup) {s : State} (sound : Sound (setupOf v) s) where
 
     -- the charged clients of the clusters below k
     charged-below : (k : ℕ) → k ≤ maxClusters
-        → chargedBelow d ls rs (v .sizes) (v .priorities) k
+        → chargedBelow d ls rs (v .sizes) ks k
         ≡ setOf maxClients (λ c. isCharged c && ltb (setupOf v .cluster c) k)
     charged-below zero h = union-none isCharged (setupOf v .cluster)
     charged-below (suc k) h =
         rw (
           charged-below k (omega arith),
-          setOf-same maxClients (bestIn (v .priorities) (waiting k (omega arith)) (setupOf v .size k))
+          setOf-same maxClients (bestIn ks (waiting k (omega arith)) (setupOf v .size k))
               (λ c. isCharged c && eqb (setupOf v .cluster c) k) (charged-is k (omega arith)),
         ) (union-next isCharged (setupOf v .cluster) k)
 
     -- and of all
-    pub charged-all : chargedBelow d ls rs (v .sizes) (v .priorities) (v .clusters) ≡ setOf maxClients isCharged
+    pub charged-all : chargedBelow d ls rs (v .sizes) ks (v .clusters) ≡ setOf maxClients isCharged
     charged-all =
         let a = allowed (setupOf v) (sound .setup) in
         charged-below (v .clusters) (a .few-clusters)

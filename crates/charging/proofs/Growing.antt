@@ -86,7 +86,8 @@ module _ (v : Setup) {s : State} (sound : Sound (setupOf v) s) {cs : List ℕ} (
   member-is c b = rw told (member-setOf maxClients (charged (setupOf v) (outranks (setupOf v) s) s) c b)
 
   -- the code's test is the rules'
-  pub overcharges-is : someBelow (overchargesIn cs w n) maxClients ≡ overcharges (setupOf v) s n
+  pub overcharges-is : someBelow (overchargesIn cs w n) maxClients
+      ≡ overcharges (setupOf v) (outranks (setupOf v) s) s n
   overcharges-is =
       some-cut (overchargesIn cs w n) _ (v .clients) maxClients few
       (λ c b.

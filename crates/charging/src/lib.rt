@@ -18,7 +18,7 @@ ghost use Rattle.rules.specs.Sound.{Sound};
 ghost use Rattle.sets.specs.Sets.{setOf};
 ghost use Rattle.gate.specs.declared.Setup as given;
 ghost use Rattle.gate.specs.Shown.{setupOf, showRooms};
-ghost use Rattle.parts.specs.Shows.{ShowsLines};
+ghost use Rattle.parts.specs.Shows.{ShowsKeys, ShowsLines};
 ghost use Rattle.charging.specs.Charged.{waitingIn, overchargesIn, grown};
 
 // WHO WAITS
@@ -47,12 +47,12 @@ pub fn charged(
     lines: [Line; 8],
     rooms: &[u64; 8],
     sizes: &[u8; 8],
-    priorities: &[u16; 64],
+    keys: &[u32; 64],
     clusters: usize,
 ) -> u64
     requires { ⌜ clusters ≤ maxClusters ⌝ }
     ensures { λ r.
-        ⌜ ((v : given.Setup) (s : State) → now (sizes .entry) ≡ v .sizes → now (priorities .entry) ≡ v .priorities
+        ⌜ ((v : given.Setup) (s : State) → now (sizes .entry) ≡ v .sizes → ShowsKeys v s (now (keys .entry))
         → clusters ≡ v .clusters → ShowsLines (s .lines) lines
         → now (rooms .entry) ≡ showRooms (setupOf v .cluster) (s .room) → Sound (setupOf v) s
         → r ≡ setOf maxClients (charged (setupOf v) (outranks (setupOf v) s) s)) ⌝ }
@@ -62,7 +62,7 @@ pub fn charged(
     while k < clusters {
         let waiting = waiting_in(lines[k], rooms[k]);
         let m = rows::size(sizes, Cluster(k));
-        s = sets::union(s, ranks::best_in(priorities, waiting, m));
+        s = sets::union(s, ranks::best_in(keys, waiting, m));
         k += 1;
     }
     s

@@ -17,13 +17,13 @@ use Rattle.rules.proofs.Lists.{heads-same, length-remove, remove-none}
 use Rattle.rules.proofs.Tests.{by-test, clash}
 use Rattle.gate.specs.Shown.{setupOf}
 use Rattle.gate.specs.declared.Setup.{Setup}
-use Rattle.parts.specs.Shows.{Refills}
+use Rattle.parts.specs.Shows.{Refills, ShowsKeys}
 use Rattle.parts.proofs.Turns.{order, fine, queue-once, queue-below, turn-free, front-there}
 use Rattle.leaving.specs.Finds.{Turn, Yields}
 
 module _ (v : Setup) (s : State) (sound : Sound (setupOf v) s) where
-  pub refills : {ms ps : List ℕ} → ms ≡ v .sizes → ps ≡ v .priorities → Refills v (s .room) ms ps
-  refills e f = record { sizes = e; priorities = f; known = λ c q. sound .room c q .known }
+  pub refills : {ms ks : List ℕ} → ms ≡ v .sizes → ShowsKeys v s ks → Refills v s ms ks
+  refills e f = record { sizes = e; keys = f; known = λ c q. sound .room c q .known }
 
   pub turn : (c : ℕ) → Turn v s c
   turn c first =

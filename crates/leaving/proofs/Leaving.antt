@@ -2,6 +2,7 @@
 -- Assumes nothing.
 use Prim.Native.Nat.{_<_, ℕ}
 use mathlib.Core.Bool.{Bool, cond, false, true}
+use mathlib.Core.List.{List}
 use mathlib.Core.Option.{Option, none, some}
 use mathlib.Core.Path.{_∙_, _≡_, ap, refl, subst, sym}
 use lib.Dec.{ltb}
@@ -18,12 +19,13 @@ use Rattle.sets.specs.Sets.{withoutOf}
 use Rattle.places.specs.Places.{takeOutOf}
 use Rattle.parts.specs.Parts.{putGlobal, putLine, putRoom, putServer}
 use Rattle.gate.specs.Shown.{serverOf, setupOf}
-use Rattle.parts.specs.Shows.{ShowsQueues}
+use Rattle.parts.specs.Shows.{Refills, ShowsQueues}
 use Rattle.gate.specs.declared.Client.{Client}
 use Rattle.gate.specs.declared.Line.{Line}
 use Rattle.parts.specs.declared.Queues.{Queues}
 use Rattle.gate.specs.declared.Server.the-variants.{Spent, Tidying}
 use Rattle.gate.specs.declared.Setup.{Setup}
+use Rattle.parts.proofs.Keys.{keys-kept}
 use Rattle.parts.proofs.Parts.{line-at, shows-global, shows-line, shows-room, shows-server, taken-out}
 use Rattle.rows.specs.Homes.{Home}
 use Rattle.serving.specs.Service.{asFront, asSpent, servedBy}
@@ -45,11 +47,20 @@ gone-global u rank c s =
     go none = refl
     go (some d) = refl
 
+-- what a refill reads shows a state between too, with the same rooms and the same deadlines
+pub refills-kept : {v : Setup} {s t : State} {ms ks : List ℕ} → Refills v s ms ks → t .room ≡ s .room
+    → t .deadline ≡ s .deadline → Refills v t ms ks
+refills-kept h r e = record {
+  sizes = h .sizes;
+  keys = keys-kept (h .keys) e;
+  known = λ c q. h .known c (ap (λ f. f c) (sym r) ∙ q);
+}
+
 -- the rank of a state between is the one that the event read
-pub by-rank : {v : Setup} {r : Queues} (c : ℕ) (t s x : State)
+pub by-rank : {v : Setup} {r : Queues} (c : ℕ) (t s x : State) → s .deadline ≡ t .deadline
     → ShowsQueues v (gone (setupOf v) (outranks (setupOf v) t) c x) r
     → ShowsQueues v (gone (setupOf v) (outranks (setupOf v) s) c x) r
-by-rank {v} {r} c t s x q = subst (λ rank. ShowsQueues v (gone (setupOf v) rank c x) r) (same-rank v t s) q
+by-rank {v} {r} c t s x e q = subst (λ rank. ShowsQueues v (gone (setupOf v) rank c x) r) (same-rank v t s e) q
 
 module _ {v : Setup} {s : State} {q : Queues} (h : ShowsQueues v s q) where
   pub shows-freed : ShowsQueues v (freed s) (putServer Tidying 0 q)
@@ -76,7 +87,7 @@ module _ {v : Setup} {c k : ℕ} (home : Home (v .homes) c k) where
   pub shows-gone : (s : State) {r : Queues}
       → ShowsQueues v (refill (setupOf v) (outranks (setupOf v) (without k c s)) k (without k c s)) r
       → ShowsQueues v (gone (setupOf v) (outranks (setupOf v) s) c s) r
-  shows-gone s z = by-rank c (without (setupOf v .cluster c) c s) s s (rw (home .own) at z)
+  shows-gone s z = by-rank c (without (setupOf v .cluster c) c s) s s refl (rw (home .own) at z)
 
   -- what joins the queue of k joins that of c's cluster
   pub shows-queue : (t : State) {r : Queues} → ShowsQueues v (queue (setupOf v) k t) r

@@ -26,13 +26,13 @@ fn gone<'a>(
     q: Queues,
     homes: &'a [u8; 64],
     sizes: &'a [u8; 8],
-    priorities: &'a [u16; 64],
+    keys: &'a [u32; 64],
     c: Client,
 ) -> Queues
     requires { ⌜ (c .0 < maxClients) × Homes (now homes) ⌝ }
     ensures { λ r.
         ⌜ Leaves (λ v s. (now (homes .entry) ≡ v .homes)
-        × Refills v (s .room) (now (sizes .entry)) (now (priorities .entry)))
+        × Refills v s (now (sizes .entry)) (now (keys .entry)))
         (λ u s. rules.gone u (outranks u s) (c .0) s) q r ⌝ }
 {
     let k = rows::home(homes, c);
@@ -41,7 +41,7 @@ fn gone<'a>(
     let rest = rows::shorter(line, rows::byte(c));
     let mut n = q;
     n.lines[i] = rest;
-    moves::refilled(n, sizes, priorities, k)
+    moves::refilled(n, sizes, keys, k)
 }
 
 // REPLY
@@ -58,17 +58,17 @@ fn front_ended<'a>(
     q: Queues,
     homes: &'a [u8; 64],
     sizes: &'a [u8; 8],
-    priorities: &'a [u16; 64],
+    keys: &'a [u32; 64],
     c: Client,
 ) -> Queues
     requires { ⌜ (c .0 < maxClients) × Homes (now homes) ⌝ }
     ensures { λ r.
         ⌜ Leaves (λ v s. (now (homes .entry) ≡ v .homes)
-        × Refills v (s .room) (now (sizes .entry)) (now (priorities .entry))
+        × Refills v s (now (sizes .entry)) (now (keys .entry))
         × (length (s .global) < maxClusters)) (λ u s. rules.ended u (outranks u s) (front (c .0)) s) q r ⌝ }
 {
     let k = rows::home(homes, c);
-    moves::queued(gone(freed(q), homes, sizes, priorities, c), homes, k)
+    moves::queued(gone(freed(q), homes, sizes, keys, c), homes, k)
 }
 
 // The request of a spent client ends: its cluster stops being blocked, and the front there joins the global queue.
@@ -88,19 +88,19 @@ pub fn replied<'a>(
     q: Queues,
     homes: &'a [u8; 64],
     sizes: &'a [u8; 8],
-    priorities: &'a [u16; 64],
+    keys: &'a [u32; 64],
 ) -> Queues
     requires { ⌜ ServerFits (serverOf (q .service .server)) × Homes (now homes) ⌝ }
     ensures { λ r.
         ⌜ Leaves (λ v s. (now (homes .entry) ≡ v .homes)
-        × Refills v (s .room) (now (sizes .entry)) (now (priorities .entry))
+        × Refills v s (now (sizes .entry)) (now (keys .entry))
         × Yields (s .server) (s .global)) (λ u s. rules.replied u (outranks u s) s) q r ⌝ }
 {
     let y = q.service;
     let server = y.server;
     let c = serving::served(server);
     if serving::as_front(server) {
-        return front_ended(q, homes, sizes, priorities, c);
+        return front_ended(q, homes, sizes, keys, c);
     }
     if serving::as_spent(server) {
         return spent_ended(q, homes, c);
@@ -127,18 +127,18 @@ fn front_aborted<'a>(
     q: Queues,
     homes: &'a [u8; 64],
     sizes: &'a [u8; 8],
-    priorities: &'a [u16; 64],
+    keys: &'a [u32; 64],
     c: Client,
 ) -> Queues
     requires { ⌜ (c .0 < maxClients) × Homes (now homes) ⌝ }
     ensures { λ r.
         ⌜ Leaves (λ v s. (now (homes .entry) ≡ v .homes)
-        × Refills v (s .room) (now (sizes .entry)) (now (priorities .entry))
+        × Refills v s (now (sizes .entry)) (now (keys .entry))
         × (length (remove (c .0) (s .global)) < maxClusters))
         (λ u s. queue u (u .cluster (c .0)) (rules.gone u (outranks u s) (c .0) (rules.unqueue (c .0) s))) q r ⌝ }
 {
     let k = rows::home(homes, c);
-    moves::queued(gone(unqueued(q, c), homes, sizes, priorities, c), homes, k)
+    moves::queued(gone(unqueued(q, c), homes, sizes, keys, c), homes, k)
 }
 
 // Abort c. In the waiting room: leaves. Front in service: leaves the line, and stays in service as spent. Front and
@@ -147,13 +147,13 @@ pub fn aborted<'a>(
     q: Queues,
     homes: &'a [u8; 64],
     sizes: &'a [u8; 8],
-    priorities: &'a [u16; 64],
+    keys: &'a [u32; 64],
     c: Client,
 ) -> Queues
     requires { ⌜ (c .0 < maxClients) × Homes (now homes) ⌝ }
     ensures { λ r.
         ⌜ Leaves (λ v s. (now (homes .entry) ≡ v .homes)
-        × Refills v (s .room) (now (sizes .entry)) (now (priorities .entry))
+        × Refills v s (now (sizes .entry)) (now (keys .entry))
         × Turn v s (c .0)) (λ u s. rules.aborted u (outranks u s) (c .0) s) q r ⌝ }
 {
     let k = rows::home(homes, c);
@@ -170,11 +170,11 @@ pub fn aborted<'a>(
     let server = y.server;
     if serving::is_front(server, at) {
         let n = moves::served(q, Server::Spent(c), y.units);
-        return gone(n, homes, sizes, priorities, c);
+        return gone(n, homes, sizes, keys, c);
     }
     let line = q.lines[i];
     if rows::front(line) == rows::byte(c) {
-        return front_aborted(q, homes, sizes, priorities, c);
+        return front_aborted(q, homes, sizes, keys, c);
     }
-    gone(q, homes, sizes, priorities, c)
+    gone(q, homes, sizes, keys, c)
 }

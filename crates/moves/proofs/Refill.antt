@@ -2,6 +2,7 @@
 -- Assumes nothing.
 use Prim.Native.Nat.{_<_, _≤_, ℕ}
 use mathlib.Core.Bool.{Bool, false, true}
+use mathlib.Core.List.{List}
 use mathlib.Core.Option.{some}
 use mathlib.Core.Path.{_∙_, _≡_, ap, sym}
 use native.Mathlib.Omega.{arith}
@@ -20,13 +21,13 @@ use Rattle.sets.proofs.Laws.{member-setOf}
 use Rattle.places.specs.Places.{appendOf, usedOf}
 use Rattle.parts.specs.Parts.{putLine, putRoom}
 use Rattle.gate.specs.Shown.{setupOf}
-use Rattle.parts.specs.Shows.{Fine, ShowsList, ShowsQueues}
+use Rattle.parts.specs.Shows.{Fine, ShowsKeys, ShowsList, ShowsQueues}
 use Rattle.gate.specs.declared.Line.{Line}
 use Rattle.parts.specs.declared.Queues.{Queues}
 use Rattle.gate.specs.declared.Setup.{Setup}
 use Rattle.parts.proofs.Parts.{appended, line-at, room-at, shows-line, shows-room, used-is}
 use Rattle.ranks.specs.Ranks.{rankBy}
-use Rattle.ranks.proofs.Ranks.{found-leads, highest-cut, highest-none, rank-is, ranked}
+use Rattle.ranks.proofs.Ranks.{found-leads, highest-cut, highest-none, rank-shown, ranked}
 
 module _ {v : Setup} {s : State} {q : Queues} (fine : Fine v) (h : ShowsQueues v s q) (k : ℕ) (low : k < maxClusters)
   where
@@ -66,11 +67,11 @@ module _ {v : Setup} {s : State} {q : Queues} (fine : Fine v) (h : ShowsQueues v
             rw (le-ltb (length (s .lines k)) (setupOf v .size k) (omega (arith, size, length-is))) h
 
         pub refill-moves : n < m → ((c : ℕ) → s .room c ≡ true → c < v .clients) → (w c : ℕ) → c < maxClients
-            → some c ≡ highest (rankBy (v .priorities)) (member (getD (q .rooms) k w)) maxClients
+            → {ks : List ℕ} → ShowsKeys v s ks → some c ≡ highest (rankBy ks) (member (getD (q .rooms) k w)) maxClients
             → ShowsQueues v (refill (setupOf v) (outranks (setupOf v) s) k s)
             (putRoom k (withoutOf (getD (q .rooms) k w) c) (putLine k (appendOf c (getD (q .lines) k d .places)) q))
         unfolding refill
-        refill-moves free known w c b top =
+        refill-moves free known w c b {ks} keys top =
             rw (lt-ltb (length (s .lines k)) (setupOf v .size k) (omega (arith, size, length-is)), ← top-is)
             (shows-room (shows-line h k (appended here c (omega (arith, size, length-is, fine .sizes k)) b))
             c false w low (eqb-true (setupOf v .cluster c) k
@@ -85,14 +86,14 @@ module _ {v : Setup} {s : State} {q : Queues} (fine : Fine v) (h : ShowsQueues v
             there : waiting c ≡ true
             there =
                 sym (in-room c b)
-                ∙ found-leads (ranked (v .priorities)) (member (getD (q .rooms) k w)) maxClients c top .passes
+                ∙ found-leads (ranked ks) (member (getD (q .rooms) k w)) maxClients c top .passes
 
             top-is : some c ≡ highest rank waiting (v .clients)
             top-is =
                 top
-                ∙ sym (highest-cut (rankBy (v .priorities)) waiting (member (getD (q .rooms) k w)) (v .clients)
+                ∙ sym (highest-cut (rankBy ks) waiting (member (getD (q .rooms) k w)) (v .clients)
                 maxClients (fine .clients)
                 (λ i l. sym (in-room i (omega (arith, fine .clients))))
                 (λ i l past. in-room i l ∙ not-so (waiting i) (λ e.
                 omega (arith, known i (both-true (s .room i) (eqb (setupOf v .cluster i) k) e .0)))))
-                ∙ ap (λ r. highest r waiting (v .clients)) (sym (rank-is v s))
+                ∙ ap (λ r. highest r waiting (v .clients)) (rank-shown keys)

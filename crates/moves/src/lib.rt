@@ -18,10 +18,10 @@ ghost use Rattle.parts.specs.Shows.{Refills, Leaves};
 
 // Refill of a cluster: if its line has room and its waiting room isn't empty, the highest in rank moves to the line's
 // end.
-pub fn refilled<'a>(q: Queues, sizes: &'a [u8; 8], priorities: &'a [u16; 64], k: Cluster) -> Queues
+pub fn refilled<'a>(q: Queues, sizes: &'a [u8; 8], keys: &'a [u32; 64], k: Cluster) -> Queues
     requires { ⌜ k .0 < maxClusters ⌝ }
     ensures { λ r.
-        ⌜ Leaves (λ v s. Refills v (s .room) (now (sizes .entry)) (now (priorities .entry)))
+        ⌜ Leaves (λ v s. Refills v s (now (sizes .entry)) (now (keys .entry)))
         (λ u s. rules.refill u (outranks u s) (k .0) s) q r ⌝ }
 {
     let i = k.0;
@@ -33,7 +33,7 @@ pub fn refilled<'a>(q: Queues, sizes: &'a [u8; 8], priorities: &'a [u16; 64], k:
     if rows::size(sizes, k) <= rows::used(line) {
         return q;
     }
-    let c = ranks::highest_in(priorities, room);
+    let c = ranks::highest_in(keys, room);
     let mut n = q;
     let more = rows::longer(line, rows::narrow(c));
     n.lines[i] = more;

@@ -1,4 +1,4 @@
--- The definitions, tried on sets and priorities that are written out: each case computes.
+-- The definitions, tried on sets and keys that are written out: each case computes.
 -- Assumes nothing.
 use Prim.Native.Nat.{ℕ}
 use mathlib.Core.Bool.{true, false}
@@ -8,27 +8,27 @@ use lib.Count.{trailingZeros}
 use Rattle.sets.specs.Sets.{member, setOf, countOf}
 use Rattle.ranks.specs.Ranks.{rankBy, turned, outrankingIn, bestIn, pastOf}
 
--- client 2 ranks highest, then 0, 3 (whose priorities are equal), 1; client 4 has no row, and so priority 0
-abbrev ps : List ℕ
-ps = 5 ∷ 9 ∷ 2 ∷ 5 ∷ []
+-- client 2 ranks highest, then 0, 3 (whose keys are equal), 1; client 4 has no row, and so key 0
+abbrev ks : List ℕ
+ks = 5 ∷ 9 ∷ 2 ∷ 5 ∷ []
 
 -- the smaller number outranks, of equal ones the smaller client; nobody outranks itself
 rank-cases :
-    (rankBy ps 2 0 ≡ true) × (rankBy ps 1 0 ≡ false) × (rankBy ps 0 3 ≡ true) × (rankBy ps 3 0 ≡ false)
-    × (rankBy ps 3 3 ≡ false) × (rankBy ps 4 2 ≡ true) × (turned (rankBy ps) 1 0 ≡ true)
-    × (turned (rankBy ps) 0 3 ≡ false)
+    (rankBy ks 2 0 ≡ true) × (rankBy ks 1 0 ≡ false) × (rankBy ks 0 3 ≡ true) × (rankBy ks 3 0 ≡ false)
+    × (rankBy ks 3 3 ≡ false) × (rankBy ks 4 2 ≡ true) × (turned (rankBy ks) 1 0 ≡ true)
+    × (turned (rankBy ks) 0 3 ≡ false)
 unfolding rankBy
 rank-cases = (refl, refl, refl, refl, refl, refl, refl, refl)
 
 -- of 0, 1 and 3 those who outrank 3, and 1, and 0; 2 is not in the set
-outranking-cases : (outrankingIn ps 11 3 ≡ 1) × (outrankingIn ps 11 1 ≡ 9) × (outrankingIn ps 11 0 ≡ 0)
+outranking-cases : (outrankingIn ks 11 3 ≡ 1) × (outrankingIn ks 11 1 ≡ 9) × (outrankingIn ks 11 0 ≡ 0)
 unfolding rankBy member setOf
 outranking-cases = (refl, refl, refl)
 
 -- the best two of 0, 1 and 3; one alone; of three the best three; 2 is not in the set; nobody is among the best none
 best-cases :
-    (bestIn ps 11 2 0 ≡ true) × (bestIn ps 11 2 3 ≡ true) × (bestIn ps 11 2 1 ≡ false) × (bestIn ps 11 1 3 ≡ false)
-    × (bestIn ps 11 3 1 ≡ true) × (bestIn ps 11 2 2 ≡ false) × (bestIn ps 11 0 0 ≡ false)
+    (bestIn ks 11 2 0 ≡ true) × (bestIn ks 11 2 3 ≡ true) × (bestIn ks 11 2 1 ≡ false) × (bestIn ks 11 1 3 ≡ false)
+    × (bestIn ks 11 3 1 ≡ true) × (bestIn ks 11 2 2 ≡ false) × (bestIn ks 11 0 0 ≡ false)
 unfolding bestIn rankBy member setOf countOf
 best-cases = (refl, refl, refl, refl, refl, refl, refl)
 

@@ -64,7 +64,7 @@ module _ {rank : Rank} (order : StrictTotal rank) {m : ℕ} {p : ℕ → Bool} {
 
 -- THE FIRST M, AND ALL
 
-module _ (ps : List ℕ) (s m : ℕ) (word : s < 2 ^ maxClients) where
+module _ (ks : List ℕ) (s m : ℕ) (word : s < 2 ^ maxClients) where
   -- the first m are m
   first-full : m ≤ countOf s → countOf (lessOf s (pastOf s m)) ≡ m
   first-full few =
@@ -77,8 +77,8 @@ module _ (ps : List ℕ) (s m : ℕ) (word : s < 2 ^ maxClients) where
 
   -- and the best of themselves
   pub keeps-first : m ≤ countOf s → {d : ℕ}
-      → some d ≡ highest (turned (rankBy ps)) (member (lessOf s (pastOf s m))) maxClients
-      → Keeps (rankBy ps) m (passed s (pastOf s m)) (record { best = lessOf s (pastOf s m); last = d })
+      → some d ≡ highest (turned (rankBy ks)) (member (lessOf s (pastOf s m))) maxClients
+      → Keeps (rankBy ks) m (passed s (pastOf s m)) (record { best = lessOf s (pastOf s m); last = d })
   keeps-first few e = record {
     seen = λ c b f. sym (same c b) ∙ f;
     above = λ c d b l f g x. clash (same d l ∙ g) x;
@@ -90,28 +90,28 @@ module _ (ps : List ℕ) (s m : ℕ) (word : s < 2 ^ maxClients) where
       same c b = member-setOf maxClients (λ c. member s c && not (member (pastOf s m) c)) c b
 
   -- who is best in the set, by a count over tests
-  best-is : (c : ℕ) → bestIn ps s m c ≡ (member s c && ltb (countBelow (over (rankBy ps) (member s) c) maxClients) m)
+  best-is : (c : ℕ) → bestIn ks s m c ≡ (member s c && ltb (countBelow (over (rankBy ks) (member s) c) maxClients) m)
   unfolding bestIn
-  best-is c = ap (λ x. member s c && ltb x m) (countOf-setOf maxClients (over (rankBy ps) (member s) c) (omega arith))
+  best-is c = ap (λ x. member s c && ltb x m) (countOf-setOf maxClients (over (rankBy ks) (member s) c) (omega arith))
 
-  pub keeps-all : {k : Kept} → k .best < 2 ^ maxClients → Keeps (rankBy ps) m (member s) k
-      → k .best ≡ setOf maxClients (bestIn ps s m)
+  pub keeps-all : {k : Kept} → k .best < 2 ^ maxClients → Keeps (rankBy ks) m (member s) k
+      → k .best ≡ setOf maxClients (bestIn ks s m)
   keeps-all {k} w h =
-      is-setOf maxClients (k .best) (bestIn ps s m) w
-      (λ c b. best-exact (ranked ps) maxClients (member s) (held h) c b ∙ sym (best-is c))
+      is-setOf maxClients (k .best) (bestIn ks s m) w
+      (λ c b. best-exact (ranked ks) maxClients (member s) (held h) c b ∙ sym (best-is c))
 
   -- no more than m: all are
-  pub few-best : countOf s ≤ m → s ≡ setOf maxClients (bestIn ps s m)
+  pub few-best : countOf s ≤ m → s ≡ setOf maxClients (bestIn ks s m)
   unfolding countOf
   few-best few =
-      is-setOf maxClients s (bestIn ps s m) word
-      (λ c b. best-of-few (ranked ps) maxClients (member s) m few c b ∙ sym (best-is c))
+      is-setOf maxClients s (bestIn ks s m) word
+      (λ c b. best-of-few (ranked ks) maxClients (member s) m few c b ∙ sym (best-is c))
 
   -- the best none: nobody is
-  pub none-best : m ≡ 0 → 0 ≡ setOf maxClients (bestIn ps s m)
+  pub none-best : m ≡ 0 → 0 ≡ setOf maxClients (bestIn ks s m)
   unfolding bestIn
   none-best e =
-      sym (setOf-none maxClients (bestIn ps s m) (λ c b. go (member s c) (countOf (outrankingIn ps s c))))
+      sym (setOf-none maxClients (bestIn ks s m) (λ c b. go (member s c) (countOf (outrankingIn ks s c))))
     where
       go : (b : Bool) (x : ℕ) → b && ltb x m ≡ false
       go b x = rw (le-ltb x m (omega arith)) (and-false b)

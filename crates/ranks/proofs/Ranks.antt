@@ -1,49 +1,41 @@
--- Rank by priorities is a strict total order, which ever way round; and the one that leads is the highest.
+-- Rank by keys is a strict total order, which ever way round; and the one that leads is the highest.
 -- Assumes nothing.
 use Prim.Native.Nat.{ℕ, zero, suc, _≤_, _<_}
 use mathlib.Core.Bool.{Bool, false}
 use mathlib.Core.List.{List}
 use mathlib.Core.Logic.{by-cases}
 use mathlib.Core.Option.{Option, none, some}
-use mathlib.Core.Path.{_≡_, ap, refl, subst, sym}
+use mathlib.Core.Path.{_≡_, ap, fun-ext, refl, subst, sym}
 use native.Mathlib.Decide.{ℕ-discrete}
 use native.Mathlib.Omega.{arith}
 use lib.ListN.{getD}
 use Rattle.rules.specs.Lists.{highest}
 use Rattle.rules.specs.Rank.{Rank, outranks}
-use Rattle.rules.specs.State.{State, fresh}
+use Rattle.rules.specs.State.{State}
+use Rattle.rules.proofs.ByNumber.{by-number-total}
 use Rattle.rules.proofs.Highest.{Leader, Leads, StrictTotal, highest-leads}
-use Rattle.rules.proofs.Ranking.{by-priority}
 use Rattle.rules.proofs.Tests.{clash}
 use Rattle.gate.specs.Shown.{setupOf}
 use Rattle.gate.specs.declared.Setup.{Setup}
+use Rattle.parts.specs.Shows.{ShowsKeys}
 use Rattle.ranks.specs.Ranks.{rankBy, turned}
 
 -- THE ORDER
 
--- the rank that an event reads off a state is the one of the setup's priorities
-pub rank-is : (v : Setup) (s : State) → outranks (setupOf v) s ≡ rankBy (v .priorities)
+-- keys that show what a state's rank goes by: theirs is the rank that an event reads off it
+pub rank-shown : {v : Setup} {s : State} {ks : List ℕ} → ShowsKeys v s ks → rankBy ks ≡ outranks (setupOf v) s
 unfolding outranks rankBy
-rank-is v s = refl
+rank-shown h = fun-ext (λ a. fun-ext (λ b. rw (h .key a, h .key b)))
 
--- it does not look at the state
-pub same-rank : (v : Setup) (s t : State) → outranks (setupOf v) s ≡ outranks (setupOf v) t
+-- of a state it looks at the deadlines alone
+pub same-rank : (v : Setup) (s t : State) → t .deadline ≡ s .deadline
+    → outranks (setupOf v) s ≡ outranks (setupOf v) t
 unfolding outranks
-same-rank v s t = refl
+same-rank v s t e = rw e
 
-pub ranked : (ps : List ℕ) → StrictTotal (rankBy ps)
-unfolding rankBy outranks
-ranked ps =
-    by-priority (record {
-      clusters = 0;
-      clients = 0;
-      cap = 0;
-      tidy = 0;
-      size = λ k. 0;
-      kind = λ c. 0;
-      cluster = λ c. 0;
-      priority = λ c. getD ps c 0;
-    }) .order fresh
+pub ranked : (ks : List ℕ) → StrictTotal (rankBy ks)
+unfolding rankBy
+ranked ks = by-number-total (λ c. getD ks c 0)
 
 pub turned-order : {rank : Rank} → StrictTotal rank → StrictTotal (turned rank)
 turned-order order = record {

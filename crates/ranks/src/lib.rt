@@ -15,20 +15,20 @@ ghost use Rattle.ranks.specs.Keeps.{Keeps};
 // WHO OUTRANKS WHOM
 
 // What a client's rank goes by: the smaller, the higher.
-fn key(priorities: &[u16; 64], c: usize) -> u16
+fn key(keys: &[u32; 64], c: usize) -> u32
     requires { ⌜ c < maxClients ⌝ }
-    ensures { λ r. ⌜ r ≡ getD (now (priorities .entry)) c 0 ⌝ }
+    ensures { λ r. ⌜ r ≡ getD (now (keys .entry)) c 0 ⌝ }
 {
-    priorities[c]
+    keys[c]
 }
 
 // Whether client a outranks client b: by their keys, then by their numbers.
-fn outranks(priorities: &[u16; 64], a: usize, b: usize) -> bool
+fn outranks(keys: &[u32; 64], a: usize, b: usize) -> bool
     requires { ⌜ (a < maxClients) × (b < maxClients) ⌝ }
-    ensures { λ r. ⌜ r ≡ rankBy (now (priorities .entry)) a b ⌝ }
+    ensures { λ r. ⌜ r ≡ rankBy (now (keys .entry)) a b ⌝ }
 {
-    let p = key(priorities, a);
-    let q = key(priorities, b);
+    let p = key(keys, a);
+    let q = key(keys, b);
     if p < q {
         return true;
     }
@@ -41,51 +41,51 @@ fn outranks(priorities: &[u16; 64], a: usize, b: usize) -> bool
 // THE HIGHEST AND THE LOWEST
 
 // The higher in rank of two.
-fn higher(priorities: &[u16; 64], a: usize, b: usize) -> usize
+fn higher(keys: &[u32; 64], a: usize, b: usize) -> usize
     requires { ⌜ (a < maxClients) × (b < maxClients) ⌝ }
-    ensures { λ r. ⌜ r ≡ cond (rankBy (now (priorities .entry)) a b) a b ⌝ }
+    ensures { λ r. ⌜ r ≡ cond (rankBy (now (keys .entry)) a b) a b ⌝ }
 {
-    if outranks(priorities, a, b) {
+    if outranks(keys, a, b) {
         return a;
     }
     b
 }
 
 // The highest in rank of a set that has a member.
-pub fn highest_in(priorities: &[u16; 64], s: u64) -> usize
+pub fn highest_in(keys: &[u32; 64], s: u64) -> usize
     requires { ⌜ 0 < s ⌝ }
-    ensures { λ r. ⌜ (some r ≡ highest (rankBy (now (priorities .entry))) (member s) maxClients) × (r < maxClients) ⌝ }
+    ensures { λ r. ⌜ (some r ≡ highest (rankBy (now (keys .entry))) (member s) maxClients) × (r < maxClients) ⌝ }
 {
     let mut b = sets::first(s);
     let mut left = sets::rest(s);
     while left != 0 {
-        b = higher(priorities, sets::first(left), b);
+        b = higher(keys, sets::first(left), b);
         left = sets::rest(left);
     }
     b
 }
 
 // The lower in rank of two.
-fn lower(priorities: &[u16; 64], a: usize, b: usize) -> usize
+fn lower(keys: &[u32; 64], a: usize, b: usize) -> usize
     requires { ⌜ (a < maxClients) × (b < maxClients) ⌝ }
-    ensures { λ r. ⌜ r ≡ cond (rankBy (now (priorities .entry)) b a) a b ⌝ }
+    ensures { λ r. ⌜ r ≡ cond (rankBy (now (keys .entry)) b a) a b ⌝ }
 {
-    if outranks(priorities, b, a) {
+    if outranks(keys, b, a) {
         return a;
     }
     b
 }
 
 // The lowest in rank of a set that has a member.
-fn lowest_in(priorities: &[u16; 64], s: u64) -> usize
+fn lowest_in(keys: &[u32; 64], s: u64) -> usize
     requires { ⌜ 0 < s ⌝ }
     ensures { λ r.
-        ⌜ (some r ≡ highest (turned (rankBy (now (priorities .entry)))) (member s) maxClients) × (r < maxClients) ⌝ }
+        ⌜ (some r ≡ highest (turned (rankBy (now (keys .entry)))) (member s) maxClients) × (r < maxClients) ⌝ }
 {
     let mut b = sets::first(s);
     let mut left = sets::rest(s);
     while left != 0 {
-        b = lower(priorities, sets::first(left), b);
+        b = lower(keys, sets::first(left), b);
         left = sets::rest(left);
     }
     b
@@ -114,26 +114,26 @@ fn past(s: u64, m: usize) -> u64
 }
 
 // With c seen too: if it outranks the lowest, it takes its place.
-fn seen(priorities: &[u16; 64], k: Kept, c: usize) -> Kept
+fn seen(keys: &[u32; 64], k: Kept, c: usize) -> Kept
     requires { ⌜ (c < maxClients) × (k .last < maxClients) ⌝ }
     ensures { λ r.
-        ⌜ ((m : ℕ) (p : ℕ → Bool) → Keeps (rankBy (now (priorities .entry))) m p k → p c ≡ false
-        → Keeps (rankBy (now (priorities .entry))) m (upd p c true) r) × (r .last < maxClients) ⌝ }
+        ⌜ ((m : ℕ) (p : ℕ → Bool) → Keeps (rankBy (now (keys .entry))) m p k → p c ≡ false
+        → Keeps (rankBy (now (keys .entry))) m (upd p c true) r) × (r .last < maxClients) ⌝ }
 {
     let l = k.last;
-    if !outranks(priorities, c, l) {
+    if !outranks(keys, c, l) {
         return k;
     }
     let t = sets::with(sets::without(k.best, l), c);
     Kept {
         best: t,
-        last: lowest_in(priorities, t),
+        last: lowest_in(keys, t),
     }
 }
 
 // Those in a set whom fewer than m of it outrank. Where it has no more than m, no two are compared.
-pub fn best_in(priorities: &[u16; 64], s: u64, m: usize) -> u64
-    ensures { λ r. ⌜ r ≡ setOf maxClients (bestIn (now (priorities .entry)) s m) ⌝ }
+pub fn best_in(keys: &[u32; 64], s: u64, m: usize) -> u64
+    ensures { λ r. ⌜ r ≡ setOf maxClients (bestIn (now (keys .entry)) s m) ⌝ }
 {
     if sets::count(s) <= m {
         return s;
@@ -145,10 +145,10 @@ pub fn best_in(priorities: &[u16; 64], s: u64, m: usize) -> u64
     let t = sets::less(s, left);
     let mut k = Kept {
         best: t,
-        last: lowest_in(priorities, t),
+        last: lowest_in(keys, t),
     };
     while left != 0 {
-        k = seen(priorities, k, sets::first(left));
+        k = seen(keys, k, sets::first(left));
         left = sets::rest(left);
     }
     k.best

@@ -12,12 +12,12 @@ use Rattle.charging.proofs.charged.Statement.{statement}
 use Rattle.charging.proofs.charged.Tie as tie
 
 abbrev Inv-loop : tie.InvT-loop
-Inv-loop rooms sizes priorities clusters lines s₀ k₀ s k =
+Inv-loop rooms sizes keys clusters lines s₀ k₀ s k =
     (k ≤ clusters) × (clusters ≤ 8) × (length lines ≡ 8)
-    × (s ≡ chargedBelow blankLine lines rooms sizes priorities k)
+    × (s ≡ chargedBelow blankLine lines rooms sizes keys k)
 
 abbrev μ-loop : tie.MeasureT-loop
-μ-loop rooms sizes priorities clusters lines s₀ k₀ s k = clusters - k
+μ-loop rooms sizes keys clusters lines s₀ k₀ s k = clusters - k
 
 loop-holds : tie.Need-loop-holds Inv-loop μ-loop
 loop-holds c = (omega arith, c .pre, search needs, refl)
@@ -64,8 +64,8 @@ returns : tie.Need-returns Inv-loop μ-loop
 returns c =
     let l = c .before .loop in
     let e : l .k ≡ c .before .before .args .clusters = omega arith in
-    λ v s ms ps ks lines rooms sound.
-    l .inv .3 ∙ rw (e, ms, ps, ks) (charged-all v sound lines rooms blankLine)
+    λ v s ms keys ks lines rooms sound.
+    l .inv .3 ∙ rw (e, ms, ks) (charged-all v sound keys lines rooms blankLine)
 
 pub charged-spec : {M : Type 1} → statement M
 charged-spec =

@@ -8,7 +8,7 @@ use Rattle.presence.proofs.Here.{heads-at, room-has}
 use Rattle.rules.specs.Events.{spend}
 use Rattle.rules.specs.State.{isFront}
 use Rattle.leaving.proofs.Leaving.{by-rank, abort-front, abort-line, abort-room, abort-served, shows-left}
-use Rattle.leaving.proofs.Leaving.{shows-spend}
+use Rattle.leaving.proofs.Leaving.{refills-kept, shows-spend}
 use Rattle.leaving.proofs.aborted.Statement.{statement}
 use Rattle.leaving.proofs.aborted.Tie as tie
 
@@ -65,8 +65,8 @@ returns-2 c =
     ∙ room-has h home _) (b .if1 .left)
     (rw (b .before .before .before .index .ensures) at (c .before .before .before .is-front .ensures)
     ∙ ap (λ x. isFront x d) (h .service .server)) (c .before .before .if2 .taken)
-    (by-rank d (spend d s) s (spend d s)
-    (c .gone .ensures v (spend d s) fine (e .0, e .1)
+    (by-rank d (spend d s) s (spend d s) refl
+    (c .gone .ensures v (spend d s) fine (e .0, refills-kept (e .1) refl refl)
     (rw (c .before .served .ensures) (shows-spend h d (a .pre .0) (a .args .c) refl))))
 
 mul-line : tie.Need-mul-line

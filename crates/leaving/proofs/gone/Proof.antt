@@ -1,8 +1,9 @@
 -- `leaving::gone` meets its contract: c leaves its line, and the refill goes by the rank that the event read.
 -- Assumes nothing.
+use mathlib.Core.Path.{refl}
 use borrow.Author.Needs.{needs}
 use Rattle.rules.specs.Queues.{without}
-use Rattle.leaving.proofs.Leaving.{shows-gone, shows-without}
+use Rattle.leaving.proofs.Leaving.{refills-kept, shows-gone, shows-without}
 use Rattle.leaving.proofs.gone.Statement.{statement}
 use Rattle.leaving.proofs.gone.Tie as tie
 
@@ -36,7 +37,8 @@ returns c =
     λ v s fine e h.
     let home = rw (e .0) at (c .before .before .before .before .home .ensures) in
     shows-gone home s
-    (c .refilled .ensures v (without (c .before .before .before .before .home .result .0) d s) fine (e .1)
+    (c .refilled .ensures v (without (c .before .before .before .before .home .result .0) d s) fine
+    (refills-kept (e .1) refl refl)
     (rw (c .before .shorter .ensures, c .before .before .byte .ensures) (shows-without h home _)))
 
 pub gone-spec : {M : Type 1} → statement M

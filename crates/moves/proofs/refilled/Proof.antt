@@ -68,8 +68,8 @@ returns-3 c =
     λ v s fine e h.
     rw (c .without .ensures, c .before .longer .ensures, c .before .before .narrow .ensures)
     (refill-moves fine h k (omega arith) _ (rw (e .sizes) at (b .before .before .size .ensures))
-    (b .before .used .ensures) (b .if2 .left) (e .known) _ (h-in .result) (h-in .ensures .1)
-    (rw (e .priorities) at (h-in .ensures .0)))
+    (b .before .used .ensures) (b .if2 .left) (e .known) _ (h-in .result) (h-in .ensures .1) (e .keys)
+    (h-in .ensures .0))
 
 pub refilled-spec : {M : Type 1} → statement M
 refilled-spec =

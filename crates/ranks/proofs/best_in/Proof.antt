@@ -16,13 +16,13 @@ use Rattle.ranks.proofs.best_in.Statement.{statement}
 use Rattle.ranks.proofs.best_in.Tie as tie
 
 abbrev Inv-loop : tie.InvT-loop
-Inv-loop priorities s m left₀ t k₀ left k =
+Inv-loop keys s m left₀ t k₀ left k =
     (k .last < maxClients) × (k .best < 2 ^ maxClients)
     × ((d : ℕ) → d < maxClients → member left d ≡ true → member s d ≡ true)
-    × Keeps (rankBy priorities) m (passed s left) k
+    × Keeps (rankBy keys) m (passed s left) k
 
 abbrev μ-loop : tie.MeasureT-loop
-μ-loop priorities s m left₀ t k₀ left k = left
+μ-loop keys s m left₀ t k₀ left k = left
 
 count-requires : tie.Need-count-requires Inv-loop μ-loop
 count-requires c κs = search needs
@@ -31,12 +31,12 @@ returns : tie.Need-returns Inv-loop μ-loop
 returns c =
     let a = c .before .before .args in
     let few = c .if1 .taken in
-    few-best (a .priorities .now) (a .s) (a .m) (omega arith) (rw (c .before .count .ensures) at few)
+    few-best (a .keys .now) (a .s) (a .m) (omega arith) (rw (c .before .count .ensures) at few)
 
 returns-2 : tie.Need-returns-2 Inv-loop μ-loop
 returns-2 c =
     let a = c .before .before .before .args in
-    none-best (a .priorities .now) (a .s) (a .m) (omega arith) (c .if2 .taken)
+    none-best (a .keys .now) (a .s) (a .m) (omega arith) (c .if2 .taken)
 
 past-requires : tie.Need-past-requires Inv-loop μ-loop
 past-requires c κs = omega (arith, c .before .if1 .left, c .before .before .count .ensures)
@@ -50,7 +50,7 @@ lowest-in-requires c κs =
     let a = b .before .before .before .args in
     let few : a .m ≤ countOf (a .s) = omega (arith, b .before .if1 .left, b .before .before .count .ensures) in
     rw (c .less .ensures, c .before .past .ensures)
-    (first-some (a .priorities .now) (a .s) (a .m) (omega arith) few (b .if2 .left))
+    (first-some (a .keys .now) (a .s) (a .m) (omega arith) few (b .if2 .left))
 
 loop-holds : tie.Need-loop-holds Inv-loop μ-loop
 loop-holds c =
@@ -63,7 +63,7 @@ loop-holds c =
       c .before .less .ok,
       λ d b e. past-in (a .s) (omega arith) (a .m) d b (rw past at e),
       rw (less, past)
-          (keeps-first (a .priorities .now) (a .s) (a .m) (omega arith) few (rw less at (c .lowest-in .ensures .0))),
+          (keeps-first (a .keys .now) (a .s) (a .m) (omega arith) few (rw less at (c .lowest-in .ensures .0))),
     )
 
 first-requires : tie.Need-first-requires Inv-loop μ-loop
@@ -100,7 +100,7 @@ returns-3 : tie.Need-returns-3 Inv-loop μ-loop
 returns-3 c =
     let l = c .before .loop in
     let a = c .before .before .before .before .before .before .before .before .args in
-    keeps-all (a .priorities .now) (a .s) (a .m) (omega arith) (l .inv .1)
+    keeps-all (a .keys .now) (a .s) (a .m) (omega arith) (l .inv .1)
     (keeps-same (l .inv .3) (λ d b. rw (c .loop-test .left) (passed-all (a .s) d)))
 
 pub best-in-spec : {M : Type 1} → statement M

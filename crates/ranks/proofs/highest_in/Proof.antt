@@ -8,10 +8,10 @@ use Rattle.ranks.proofs.highest_in.Statement.{statement}
 use Rattle.ranks.proofs.highest_in.Tie as tie
 
 abbrev Inv-loop : tie.InvT-loop
-Inv-loop priorities s b₀ left₀ b left = Tops (rankBy priorities) s left b
+Inv-loop keys s b₀ left₀ b left = Tops (rankBy keys) s left b
 
 abbrev μ-loop : tie.MeasureT-loop
-μ-loop priorities s b₀ left₀ b left = left
+μ-loop keys s b₀ left₀ b left = left
 
 first-requires : tie.Need-first-requires Inv-loop μ-loop
 first-requires c κs = omega arith
@@ -23,7 +23,7 @@ loop-holds : tie.Need-loop-holds Inv-loop μ-loop
 loop-holds c =
     let a = c .before .before .args in
     let f = c .before .first .ensures in
-    rw (c .rest .ensures .0, ← f .0) (tops-first (rankBy (a .priorities .now)) (a .s) _ (f .1) (f .2))
+    rw (c .rest .ensures .0, ← f .0) (tops-first (rankBy (a .keys .now)) (a .s) _ (f .1) (f .2))
 
 first-requires-2 : tie.Need-first-requires-2 Inv-loop μ-loop
 first-requires-2 c κs = omega arith
@@ -43,14 +43,14 @@ loop-again c =
     let a = c .before .before .before .before .before .before .before .args in
     let f = c .before .before .first2 .ensures in
     rw (c .rest2 .ensures .0, ← f .0, c .before .higher .ensures)
-    (tops-next (rankBy (a .priorities .now)) (a .s) (ranked (a .priorities .now)) (l .inv) _ (f .1) (f .2))
+    (tops-next (rankBy (a .keys .now)) (a .s) (ranked (a .keys .now)) (l .inv) _ (f .1) (f .2))
 
 returns : tie.Need-returns Inv-loop μ-loop
 returns c =
     let a = c .before .before .before .before .args in
-    let ps = a .priorities .now in
+    let ks = a .keys .now in
     let i = c .before .loop .inv in
-    (leads-highest (ranked ps) (tops-all (rankBy ps) (a .s) (ranked ps) (c .loop-test .left) i), i .low)
+    (leads-highest (ranked ks) (tops-all (rankBy ks) (a .s) (ranked ks) (c .loop-test .left) i), i .low)
 
 pub highest-in-spec : {M : Type 1} → statement M
 highest-in-spec =

@@ -19,7 +19,7 @@ returns c =
     let a = s .args in
     let o = c .before .outranks in
     let r = sym (o .ensures) ∙ not-true (o .result) (c .if1 .taken) in
-    (λ m p h new. seen-keep (ranked (a .priorities .now)) h (a .c) (s .pre .0) new r, s .pre .1)
+    (λ m p h new. seen-keep (ranked (a .keys .now)) h (a .c) (s .pre .0) new r, s .pre .1)
 
 without-requires : tie.Need-without-requires
 without-requires c κs = search needs
@@ -40,7 +40,7 @@ returns-2 c =
     let o = w .before .before .before .outranks in
     let r = sym (o .ensures) ∙ not-false (o .result) (w .before .before .if1 .left) in
     let e = w .with .ensures ∙ ap (λ x. withOf x (a .c)) (w .before .without .ensures) in (
-      λ m p h new. rw e (seen-swap (ranked (a .priorities .now)) h (a .c) (s .pre .0) new r
+      λ m p h new. rw e (seen-swap (ranked (a .keys .now)) h (a .c) (s .pre .0) new r
           (rw (← e) (c .lowest-in .ensures .0))),
       c .lowest-in .ensures .1,
     )
