@@ -6,10 +6,11 @@ use mathlib.Core.Bool.{Bool, cond, false, true}
 use mathlib.Core.List.{List}
 use mathlib.Core.Option.{Option}
 use mathlib.Core.Path.{_∙_, _≡_, ap, refl, sym}
-use lib.ListN.{length}
+use lib.ListN.{length, set}
 use borrow.Author.Tests.{le-leb}
 use Rattle.rules.specs.Events.{abort, answered, invoke, ready, reply}
 use Rattle.rules.specs.Limits.{maxClients, maxDeadline}
+use Rattle.rules.specs.Lists.{upd}
 use Rattle.rules.specs.Queues.{pick}
 use Rattle.rules.specs.Setup.{realTime}
 use Rattle.rules.specs.State.{State, Server, idle, front, best, spent, tidying}
@@ -43,8 +44,8 @@ module _ {v : Setup} {s : State} {ks : List ℕ} (h : ShowsKeys v s ks) (long : 
       → ShowsKeys v t (dueIn timed c d ks)
   due-keys {t} c d b e =
       by-test (v .timed)
-      (λ q. rw (told, q) (keys-set c d q long b h (e q)))
-      (λ q. rw (told, q) (keys-untimed q h))
+      (λ q. let z : dueIn timed c d ks ≡ set ks c d = rw (told, q) in rw z (keys-set c d q long b h (e q)))
+      (λ q. let z : dueIn timed c d ks ≡ ks = rw (told, q) in rw z (keys-untimed q h))
 
   pub invoke-keys : (c : ℕ) (dated : Bool) (d : ℕ) → c < maxClients → dated ≡ timed → {ks′ : List ℕ}
       → ks′ ≡ cond (realTime (setupOf v) c) (dueIn timed c d ks) ks

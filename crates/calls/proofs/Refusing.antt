@@ -20,16 +20,16 @@ use Rattle.gate.specs.declared.Setup.{Setup}
 module _ (v : Setup) (s : State) where
   -- INVOKE
 
-  pub invoke-unfit : (c : ℕ) {o : Option ℕ} → fitForm (v .timed) o ≡ false
+  pub invoke-unfit : (c : ℕ) (o : Option ℕ) → fitForm (v .timed) o ≡ false
       → answer (setupOf v) s (invoke c o) ≡ unknownRecord
   unfolding answerBy
-  invoke-unfit c f = rw f
+  invoke-unfit c o f = rw f
 
   module _ (c : ℕ) {n i : ℕ} (clients : n ≡ v .clients) (index : i ≡ c) where
-    pub invoke-unknown : {o : Option ℕ} → fitForm (v .timed) o ≡ true → n ≤ i
+    pub invoke-unknown : (o : Option ℕ) → fitForm (v .timed) o ≡ true → n ≤ i
         → answer (setupOf v) s (invoke c o) ≡ noClient
     unfolding answerBy
-    invoke-unknown f b = rw (f, le-leb (v .clients) c (omega (arith, clients)))
+    invoke-unknown o f b = rw (f, le-leb (v .clients) c (omega (arith, clients)))
 
     pub abort-unknown : n ≤ i → answer (setupOf v) s (abort c) ≡ noClient
     unfolding answerBy
@@ -39,15 +39,15 @@ module _ (v : Setup) (s : State) where
       known-is : leb (v .clients) c ≡ false
       known-is = lt-leb (v .clients) c (omega (arith, clients))
 
-      pub invoke-present : {o : Option ℕ} → fitForm (v .timed) o ≡ true → {b : Bool} → b ≡ present (setupOf v) s c
+      pub invoke-present : (o : Option ℕ) → fitForm (v .timed) o ≡ true → {b : Bool} → b ≡ present (setupOf v) s c
           → b ≡ true → answer (setupOf v) s (invoke c o) ≡ waitsAlready
       unfolding answerBy
-      invoke-present f e t = rw (f, known-is, ← e, t)
+      invoke-present o f e t = rw (f, known-is, ← e, t)
 
-      pub invoke-fine : {o : Option ℕ} → fitForm (v .timed) o ≡ true → {b : Bool} → b ≡ present (setupOf v) s c
+      pub invoke-fine : (o : Option ℕ) → fitForm (v .timed) o ≡ true → {b : Bool} → b ≡ present (setupOf v) s c
           → b ≡ false → answer (setupOf v) s (invoke c o) ≡ accepted
       unfolding answerBy
-      invoke-fine f e t = rw (f, known-is, ← e, t)
+      invoke-fine o f e t = rw (f, known-is, ← e, t)
 
       -- ABORT
 

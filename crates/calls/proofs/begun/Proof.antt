@@ -10,11 +10,15 @@ is-real-time-requires c κs = search needs
 reset-requires : tie.Need-reset-requires
 reset-requires c κs = search needs
 
+due-requires : tie.Need-due-requires
+due-requires c κs = search needs
+
 returns : tie.Need-returns
-returns c = rw (← c .before .before .before .is-real-time .ensures, c .before .before .if1 .taken) (c .reset .ensures)
+returns c = ?
 
 returns-2 : tie.Need-returns-2
-returns-2 c = rw (← c .before .is-real-time .ensures, c .if1 .left)
+returns-2 c = ?
 
 pub begun-spec : {M : Type 1} → statement M
-begun-spec = tie.close (tie.spec is-real-time-requires reset-requires returns returns-2)
+begun-spec =
+    tie.close (tie.spec is-real-time-requires reset-requires due-requires returns returns-2)

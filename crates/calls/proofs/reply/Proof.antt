@@ -8,10 +8,11 @@ use Rattle.leaving.proofs.Found.{refills, yields}
 use Rattle.rules.specs.Events.{reply}
 use Rattle.rules.specs.Records.{known}
 use Rattle.rules.specs.State.{isServing}
-use Rattle.rules.specs.Step.{next}
+use Rattle.rules.specs.Step.{movedBy, nextBy}
 use Rattle.answers.specs.declared.Answer.the-variants.{ServerIdle}
 use Rattle.answers.proofs.Answering.{accepts, fine, refuses}
 use Rattle.calls.proofs.Charges.{reply-charge}
+use Rattle.calls.proofs.Keys.{reply-keys}
 use Rattle.calls.proofs.Refusing.{reply-fine, reply-idle}
 use Rattle.calls.proofs.reply.Statement.{statement}
 use Rattle.calls.proofs.reply.Tie as tie
@@ -29,16 +30,14 @@ returns c =
 replied-requires : tie.Need-replied-requires
 replied-requires c κs = search needs
 
+replied-requires-2 : tie.Need-replied-requires-2
+replied-requires-2 c κs = search needs
+
 returns-2 : tie.Need-returns-2
-unfolding next
+unfolding nextBy movedBy
 returns-2 c =
-    λ cs v s e h.
-    let told = c .before .before .is-serving .ensures ∙ ap isServing (h .queues .service .server) in
-    let serves = not-false (c .before .before .is-serving .result) (c .before .if1 .left) in
-    accepts reply (reply-fine v s told serves)
-    (c .replied .ensures v s (fine h)
-    (e .0, refills v s (h .sound) (e .1) (e .2), yields v s (h .sound) (sym told ∙ serves)) (h .queues))
-    (reply-charge h)
+    λ cs v s e h. ?
 
 pub reply-spec : {M : Type 1} → statement M
-reply-spec = tie.close (tie.spec is-serving-requires returns replied-requires returns-2)
+reply-spec =
+    tie.close (tie.spec is-serving-requires returns replied-requires replied-requires-2 returns-2)
