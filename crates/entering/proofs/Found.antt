@@ -3,12 +3,14 @@
 use Prim.Native.Nat.{_<_, ℕ}
 use mathlib.Core.Bool.{true}
 use mathlib.Core.List.{_∷_}
+use mathlib.Core.Option.{Option}
 use mathlib.Core.Path.{_≡_}
 use native.Mathlib.Omega.{arith}
 use lib.Dec.{eqb}
 use borrow.Author.Tests.{eqb-true}
 use Rattle.rules.specs.Limits.{maxClients}
 use Rattle.rules.specs.Lists.{has}
+use Rattle.rules.specs.Rank.{Rank}
 use Rattle.rules.specs.Sound.{Sound}
 use Rattle.rules.specs.State.{State}
 use Rattle.rules.proofs.Answers.{Invokes}
@@ -23,7 +25,7 @@ use Rattle.parts.proofs.Turns.{fine, turn-free, front-there}
 use Rattle.entering.specs.Finds.{Ready}
 
 module _ (v : Setup) (s : State) (sound : Sound (setupOf v) s) where
-  pub ready : (c : ℕ) → Invokes (setupOf v) s c → Ready v s c
+  pub ready : {rank : Rank} (c : ℕ) {o : Option ℕ} → Invokes (setupOf v) rank s c o → Ready v s c
   ready c i =
       record {
         size = allowed (setupOf v) (sound .setup) .some-size (setupOf v .cluster c)
