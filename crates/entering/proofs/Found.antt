@@ -3,8 +3,8 @@
 use Prim.Native.Nat.{_<_, ℕ}
 use mathlib.Core.Bool.{true}
 use mathlib.Core.List.{_∷_}
-use mathlib.Core.Path.{_≡_}
 use mathlib.Core.Option.{Option}
+use mathlib.Core.Path.{_≡_}
 use native.Mathlib.Omega.{arith}
 use lib.Dec.{eqb}
 use borrow.Author.Tests.{eqb-true}
@@ -25,8 +25,8 @@ use Rattle.parts.proofs.Turns.{fine, turn-free, front-there}
 use Rattle.entering.specs.Finds.{Ready}
 
 module _ (v : Setup) (s : State) (sound : Sound (setupOf v) s) where
-  pub ready : (rank : Rank) (c : ℕ) (o : Option ℕ) → Invokes (setupOf v) rank s c o → Ready v s c
-  ready rank c o i =
+  pub ready : {rank : Rank} (c : ℕ) {o : Option ℕ} → Invokes (setupOf v) rank s c o → Ready v s c
+  ready c i =
       record {
         size = allowed (setupOf v) (sound .setup) .some-size (setupOf v .cluster c)
             (allowed (setupOf v) (sound .setup) .homes c (i .known));
