@@ -7,14 +7,16 @@ use borrow.Author.Tests.{eq-eqb}
 use Rattle.rules.specs.Events.{Event}
 use Rattle.rules.specs.Limits.{maxClients}
 use Rattle.rules.specs.Refusals.{accepted}
+use Rattle.rules.specs.Rank.{outranks}
 use Rattle.rules.specs.State.{State}
-use Rattle.rules.specs.Step.{stepBy, answer, next}
+use Rattle.rules.specs.Step.{movedBy, nextBy, stepBy, answer, next}
 use Rattle.rules.specs.Records.{Heard, known, answerOf}
 use Rattle.rules.proofs.Theorems.{refused-same}
 use Rattle.gate.specs.Shown.{setupOf, table}
 use Rattle.parts.specs.Shows.{Fine, ShowsKeys, ShowsQueues}
 use Rattle.parts.specs.declared.Queues.{Queues}
 use Rattle.gate.specs.declared.Setup.{Setup}
+use Rattle.parts.proofs.Parts.{shows-deadline}
 use Rattle.parts.proofs.SoundShows.{accepted-fine}
 use Rattle.answers.specs.Answers.{Answers, Holds, numberOf}
 use Rattle.answers.specs.declared.Answer.{Answer}
@@ -35,11 +37,11 @@ module _ {v : Setup} {s : State} {q : Queues} {cs ks : List ℕ} (h : Holds v s 
         keys = rw same (h .keys);
       }
 
--- an accepted event
+-- an accepted event, whose deadlines the queues don't show
 pub accepts : {v : Setup} {s : State} (e : Event) {r : Queues} {cs ks : List ℕ} → answer (setupOf v) s e ≡ accepted
-    → ShowsQueues v (next (setupOf v) s e) r → cs ≡ table maxClients (next (setupOf v) s e .charge)
+    → ShowsQueues v (movedBy (setupOf v) (outranks (setupOf v) s) s e) r → cs ≡ table maxClients (next (setupOf v) s e .charge)
     → ShowsKeys v (next (setupOf v) s e) ks → Answers v s (known e) (record { answer = is.Accepted; queues = r }) cs ks
-unfolding stepBy
+unfolding nextBy stepBy
 accepts {v} {s} e z h f k =
     let w = eq-eqb (answer (setupOf v) s e) accepted z in
-    record { number = sym z; queues = rw w h; charges = rw w f; keys = rw w k }
+    record { number = sym z; queues = rw w (shows-deadline h _); charges = rw w f; keys = rw w k }

@@ -1,22 +1,21 @@
 -- The keys that an invoke, a reply, a ready and an abort leave: a wait's deadline comes with its invoke and goes when it
 -- ends.
 -- Assumes nothing.
-use Prim.Native.Nat.{ℕ, _≤_, _<_}
+use Prim.Native.Nat.{ℕ, _<_}
 use mathlib.Core.Bool.{Bool, cond, false, true}
 use mathlib.Core.List.{List}
 use mathlib.Core.Option.{Option}
 use mathlib.Core.Path.{_∙_, _≡_, ap, refl, sym}
-use lib.ListN.{length, set}
-use borrow.Author.Tests.{le-leb}
-use Rattle.rules.specs.Events.{abort, answered, invoke, ready, reply}
-use Rattle.rules.specs.Limits.{maxClients, maxDeadline}
+use lib.ListN.{set}
+use Rattle.rules.specs.Events.{abort, answered, dueBy, invoke, ready, reply}
+use Rattle.rules.specs.Limits.{maxClients}
 use Rattle.rules.specs.Lists.{upd}
 use Rattle.rules.specs.Queues.{pick}
 use Rattle.rules.specs.Setup.{realTime}
 use Rattle.rules.specs.State.{State, Server, idle, front, best, spent, tidying}
 use Rattle.rules.specs.Step.{fitForm, nextBy, next}
 use Rattle.rules.proofs.FirstVersion.{pick-dated}
-use Rattle.rules.proofs.Tests.{by-test}
+use Rattle.rules.proofs.Tests.{by-test, clash}
 use Rattle.gate.specs.Shown.{setupOf}
 use Rattle.gate.specs.declared.Setup.{Setup}
 use Rattle.parts.specs.Shows.{ServerFits, ShowsKeys}
@@ -25,26 +24,22 @@ use Rattle.calls.specs.Due.{formIn, dueIn, repliedIn}
 
 -- AN INVOKE'S FORM
 
-pub form-unfit : (timed dated : Bool) (d : ℕ) → (dated ≡ timed → ⊥) → fitForm timed (formIn dated d) ≡ false
-form-unfit true true d n = absurd (n refl)
-form-unfit true false d n = refl
-form-unfit false true d n = refl
-form-unfit false false d n = absurd (n refl)
-
-pub form-fits : (timed dated : Bool) (d : ℕ) → d ≤ maxDeadline → dated ≡ timed → fitForm timed (formIn dated d) ≡ true
-form-fits true dated d b e = rw (e, le-leb d maxDeadline b)
-form-fits false dated d b e = rw e
+-- it has the form that its setup calls for
+pub form-fits : (timed dated : Bool) (d : ℕ) → fitForm timed (formIn dated d) ≡ true → dated ≡ timed
+form-fits true true d h = refl
+form-fits true false d h = clash h refl
+form-fits false true d h = clash h refl
+form-fits false false d h = refl
 
 -- THE KEYS
 
-module _ {v : Setup} {s : State} {ks : List ℕ} (h : ShowsKeys v s ks) (long : length ks ≡ maxClients) {timed : Bool}
-    (told : timed ≡ v .timed) where
+module _ {v : Setup} {s : State} {ks : List ℕ} (h : ShowsKeys v s ks) {timed : Bool} (told : timed ≡ v .timed) where
   -- one deadline is another
   due-keys : {t : State} (c d : ℕ) → c < maxClients → (v .timed ≡ true → t .deadline ≡ upd (s .deadline) c d)
       → ShowsKeys v t (dueIn timed c d ks)
   due-keys {t} c d b e =
       by-test (v .timed)
-      (λ q. let z : dueIn timed c d ks ≡ set ks c d = rw (told, q) in rw z (keys-set c d q long b h (e q)))
+      (λ q. let z : dueIn timed c d ks ≡ set ks c d = rw (told, q) in rw z (keys-set c d q b h (e q)))
       (λ q. let z : dueIn timed c d ks ≡ ks = rw (told, q) in rw z (keys-untimed q h))
 
   pub invoke-keys : (c : ℕ) (dated : Bool) (d : ℕ) → c < maxClients → dated ≡ timed → {ks′ : List ℕ}
@@ -53,8 +48,9 @@ module _ {v : Setup} {s : State} {ks : List ℕ} (h : ShowsKeys v s ks) (long : 
   unfolding nextBy
   invoke-keys c dated d b f e =
       rw e (by-test (realTime (setupOf v) c)
-      (λ r. rw r (due-keys c d b (λ q. rw (r, f, told, q))))
-      (λ r. rw r (keys-kept h (rw r))))
+      (λ r. rw r (due-keys c d b (λ q.
+      let y : dueBy (formIn dated d) ≡ d = ap (λ (x : Bool). dueBy (formIn x d)) (f ∙ told ∙ q) in rw y)))
+      (λ r. rw r (keys-kept h refl)))
 
   pub reply-keys : {x : Server} → s .server ≡ x → ServerFits x → {ks′ : List ℕ} → ks′ ≡ repliedIn timed x ks
       → ShowsKeys v (next (setupOf v) s reply) ks′

@@ -15,6 +15,7 @@ ghost use lib.Dec.{eqb};
 ghost use lib.ListN.{getD, set};
 ghost use Rattle.rules.specs.Limits.{maxClients};
 ghost use Rattle.rules.specs.Events as rules;
+ghost use Rattle.rules.specs.Step.{fitForm};
 ghost use Rattle.rules.specs.Records.{replyReady};
 ghost use Rattle.gate.specs.Shown.{serverOf};
 ghost use Rattle.parts.specs.Shows.{Homes, ServerFits};
@@ -44,6 +45,16 @@ fn replied(keys: &mut [u32; 64], timed: bool, server: Server)
 }
 
 // INVOKE
+
+// Whether an invoke has the form that its setup calls for: with a deadline, or without.
+fn fits_form(timed: bool, dated: bool, deadline: u32) -> bool
+    ensures { λ r. ⌜ r ≡ fitForm timed (formIn dated deadline) ⌝ }
+{
+    if timed {
+        return dated;
+    }
+    !dated
+}
 
 // A wait of a real-time client begins: its charge becomes 0, and its deadline is fixed.
 fn begun(
@@ -89,7 +100,7 @@ pub fn invoke<'a>(
         (rules.invoke (c .0) (formIn dated deadline)) q (now (charges .entry)) (now (keys .entry)) r
         (now (charges .exit)) (now (keys .exit)) ⌝ }
 {
-    if dated != timed {
+    if !fits_form(timed, dated, deadline) {
         return Outcome {
             answer: Answer::Unknown,
             queues: q,

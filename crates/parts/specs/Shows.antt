@@ -35,6 +35,7 @@ pub record Fine (v : Setup) : Type 0 where
 
 -- the keys ks are what each client's rank goes by in the state s: the deadline of its wait, or its priority
 pub record ShowsKeys (v : Setup) (s : State) (ks : List ℕ) : Type 0 where
+  pub size : length ks ≡ maxClients
   pub key : (c : ℕ) → getD ks c 0 ≡ level (setupOf v) s c
 
 -- what a refill reads is v's and the state's, and whoever is in a waiting room is a client

@@ -19,7 +19,7 @@ use Rattle.parts.specs.Parts.{gateOf, keysIn, deadlinesIn}
 use Rattle.gate.specs.Shown.{setupOf, stateOf}
 use Rattle.parts.specs.Shows.{Shows}
 use Rattle.parts.proofs.Keys.{gate-keys, keys-deadlines}
-use Rattle.parts.proofs.Reading.{laid-shows, shows-is}
+use Rattle.parts.proofs.Reading.{LaidOut, laid-shows, shows-is}
 use Rattle.parts.proofs.SoundShows.{accepted-fine}
 use Rattle.soundness.specs.Clauses.{soundOf}
 use Rattle.soundness.proofs.Exact.{passed-laid, passed-sound}
@@ -40,13 +40,17 @@ in-range {v} h long =
       server = rw (h .queues .service .server) (h .queues .service .fits);
     }
 
-module _ (v : Setup) (q : Queues) (cs ds : List ℕ) (h : soundOf (gateOf v q cs ds) ≡ true) where
+module _ (v : Setup) (q : Queues) (cs ds : List ℕ) 
+    (long : length (v .priorities) ≡ maxClients) (h : soundOf (gateOf v q cs ds) ≡ true) where
   -- the state that they show
   abbrev now : State
   now = stateOf (gateOf v q cs ds)
 
+  laid : LaidOut (gateOf v q cs ds)
+  laid = passed-laid (gateOf v q cs ds) h
+
   shows : Shows v now (gateOf v q cs ds)
-  shows = laid-shows (gateOf v q cs ds) (passed-laid (gateOf v q cs ds) h)
+  shows = laid-shows (gateOf v q cs ds) laid
 
   sound : Sound (setupOf v) now
   sound = passed-sound (gateOf v q cs ds) h
@@ -56,24 +60,24 @@ module _ (v : Setup) (q : Queues) (cs ds : List ℕ) (h : soundOf (gateOf v q cs
       record {
         queues = shows .queues;
         charges = shows .charges;
-        keys = gate-keys (gateOf v q cs ds);
+        keys = gate-keys (gateOf v q cs ds) long (laid .deadlines);
         sound = sound;
       }
 
   -- the promise of a function of what is heard, at these parts
-  pub answered : (r : Outcome) (cs′ ks′ : List ℕ) (x : Heard) → length ks′ ≡ maxClients → Answers v now x r cs′ ks′
+  pub answered : (r : Outcome) (cs′ ks′ : List ℕ) (x : Heard) → Answers v now x r cs′ ks′
       → _≡_ {A = Result}
       (record { number = numberOf (r .answer); gate = gateOf v (r .queues) cs′ (deadlinesIn (v .timed) ks′) })
       (stepped (gateOf v q cs ds) x)
   unfolding stepped
-  answered r cs′ ks′ x long a =
+  answered r cs′ ks′ x a =
       let t = stepOf (setupOf v) now x in
       let e = shows-is v t (gateOf v (r .queues) cs′ (deadlinesIn (v .timed) ks′)) (record {
         fine = shows .fine;
         setup = refl;
         queues = a .queues;
         charges = a .charges;
-        deadlines = keys-deadlines (sound-stays (setupOf v) now x sound) long (a .keys);
+        deadlines = keys-deadlines (sound-stays (setupOf v) now x sound) (a .keys);
       }) in
       rw (h, a .number, e)
 

@@ -1,5 +1,6 @@
 -- `calls::begun` meets its contract.
 -- Assumes nothing.
+use mathlib.Core.Path.{refl}
 use borrow.Author.Needs.{needs}
 use Rattle.calls.proofs.begun.Statement.{statement}
 use Rattle.calls.proofs.begun.Tie as tie
@@ -14,10 +15,16 @@ due-requires : tie.Need-due-requires
 due-requires c κs = search needs
 
 returns : tie.Need-returns
-returns c = ?
+returns c =
+    let b = c .before .before .before .before .before in
+    (
+      rw (← b .is-real-time .ensures, c .before .before .before .before .if1 .taken) (c .before .before .reset .ensures),
+      rw (← b .is-real-time .ensures, c .before .before .before .before .if1 .taken) (c .due .ensures),
+    )
 
 returns-2 : tie.Need-returns-2
-returns-2 c = ?
+returns-2 c =
+    (rw (← c .before .is-real-time .ensures, c .if1 .left), rw (← c .before .is-real-time .ensures, c .if1 .left))
 
 pub begun-spec : {M : Type 1} → statement M
 begun-spec =

@@ -14,7 +14,7 @@ element-write-keys : tie.Need-element-write-keys
 element-write-keys c = search needs
 
 returns : tie.Need-returns
-returns c = rw (c .before .before .if1 .taken) ?
+returns c = rw (c .before .if1 .taken, c .index .ensures)
 
 returns-2 : tie.Need-returns-2
 returns-2 c = rw (c .if1 .left)

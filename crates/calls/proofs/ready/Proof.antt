@@ -7,10 +7,11 @@ use borrow.Author.Tests.{not-false, not-true}
 use Rattle.rules.specs.Events.{ready, readied}
 use Rattle.rules.specs.Records.{known}
 use Rattle.rules.specs.State.{isTidying}
-use Rattle.rules.specs.Step.{next}
+use Rattle.rules.specs.Step.{movedBy}
 use Rattle.answers.specs.declared.Answer.the-variants.{NotTidying}
 use Rattle.answers.proofs.Answering.{accepts, fine, refuses}
 use Rattle.calls.proofs.Charges.{ready-charge}
+use Rattle.calls.proofs.Keys.{ready-keys}
 use Rattle.calls.proofs.Refusing.{ready-fine, ready-refused}
 use Rattle.calls.proofs.ready.Statement.{statement}
 use Rattle.calls.proofs.ready.Tie as tie
@@ -20,7 +21,7 @@ is-tidying-requires c κs = search needs
 
 returns : tie.Need-returns
 returns c =
-    λ cs v s e h.
+    λ cs ks v s e h.
     refuses h (known ready) NotTidying
     (ready-refused v s (c .before .is-tidying .ensures ∙ ap isTidying (h .queues .service .server))
     (not-true (c .before .is-tidying .result) (c .if1 .taken))) (λ z. omega arith)
@@ -29,13 +30,13 @@ picked-requires : tie.Need-picked-requires
 picked-requires c κs = search needs
 
 returns-2 : tie.Need-returns-2
-unfolding next readied
+unfolding movedBy readied
 returns-2 c =
-    λ cs v s e h.
+    λ cs ks v s e h.
     accepts ready
     (ready-fine v s (c .before .before .is-tidying .ensures ∙ ap isTidying (h .queues .service .server))
     (not-false (c .before .before .is-tidying .result) (c .before .if1 .left)))
-    (c .picked .ensures v s (fine h) tt (h .queues)) (ready-charge h)
+    (c .picked .ensures v s (fine h) tt (h .queues)) (ready-charge h) (ready-keys (h .keys))
 
 pub ready-spec : {M : Type 1} → statement M
 ready-spec = tie.close (tie.spec is-tidying-requires returns picked-requires returns-2)

@@ -8,7 +8,7 @@ use Rattle.leaving.proofs.Found.{refills, yields}
 use Rattle.rules.specs.Events.{reply}
 use Rattle.rules.specs.Records.{known}
 use Rattle.rules.specs.State.{isServing}
-use Rattle.rules.specs.Step.{movedBy, nextBy}
+use Rattle.rules.specs.Step.{movedBy}
 use Rattle.answers.specs.declared.Answer.the-variants.{ServerIdle}
 use Rattle.answers.proofs.Answering.{accepts, fine, refuses}
 use Rattle.calls.proofs.Charges.{reply-charge}
@@ -34,9 +34,18 @@ replied-requires-2 : tie.Need-replied-requires-2
 replied-requires-2 c κs = search needs
 
 returns-2 : tie.Need-returns-2
-unfolding nextBy movedBy
+unfolding movedBy
 returns-2 c =
-    λ cs v s e h. ?
+    λ cs v s e h.
+    let w = c .before .before .before .before .before in
+    let told = w .is-serving .ensures ∙ ap isServing (h .queues .service .server) in
+    let serves = not-false (w .is-serving .result) (c .before .before .before .before .if1 .left) in
+    accepts reply (reply-fine v s told serves)
+    (c .before .before .replied .ensures v s (fine h)
+    (e .0, refills v s (h .sound) (e .1) (h .keys), yields v s (h .sound) (sym told ∙ serves)) (h .queues))
+    (reply-charge h)
+    (reply-keys (h .keys) (e .2) (sym (h .queues .service .server))
+    (w .before .before .pre .0) (c .replied2 .ensures))
 
 pub reply-spec : {M : Type 1} → statement M
 reply-spec =
