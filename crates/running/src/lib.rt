@@ -37,17 +37,17 @@ fn charged(
     rooms: &[u64; 8],
     y: Service,
     sizes: &[u8; 8],
-    priorities: &[u16; 64],
+    keys: &[u32; 64],
     clusters: usize,
     charges: &mut [u32; 64],
     n: u16,
 ) -> Ran
     requires { ⌜ (clusters ≤ maxClusters) × (y .units + n ≤ maxCap) ⌝ }
     ensures { λ r.
-        ⌜ Charging (λ v. (now (sizes .entry) ≡ v .sizes) × (now (priorities .entry) ≡ v .priorities)
-        × (clusters ≡ v .clusters)) n lines (now (rooms .entry)) y (now (charges .entry)) r (now (charges .exit)) ⌝ }
+        ⌜ Charging (λ v. (now (sizes .entry) ≡ v .sizes) × (clusters ≡ v .clusters)) n lines (now (rooms .entry)) y
+        (now (charges .entry)) (now (keys .entry)) r (now (charges .exit)) ⌝ }
 {
-    let set = charging::charged(lines, rooms, sizes, priorities, clusters);
+    let set = charging::charged(lines, rooms, sizes, keys, clusters);
     if charging::overcharges(charges, set, n) {
         return Ran {
             service: y,
@@ -73,7 +73,7 @@ fn answered(
     rooms: &[u64; 8],
     y: Service,
     sizes: &[u8; 8],
-    priorities: &[u16; 64],
+    keys: &[u32; 64],
     clusters: usize,
     cap: u16,
     charges: &mut [u32; 64],
@@ -81,9 +81,9 @@ fn answered(
 ) -> Ran
     requires { ⌜ clusters ≤ maxClusters ⌝ }
     ensures { λ r.
-        ⌜ Running (λ v. (now (sizes .entry) ≡ v .sizes) × (now (priorities .entry) ≡ v .priorities)
-        × (clusters ≡ v .clusters) × (cap ≡ capOf (setupOf v) (serverOf (y .server)))) n lines (now (rooms .entry)) y
-        (now (charges .entry)) r (now (charges .exit)) ⌝ }
+        ⌜ Running (λ v. (now (sizes .entry) ≡ v .sizes) × (clusters ≡ v .clusters)
+        × (cap ≡ capOf (setupOf v) (serverOf (y .server)))) n lines (now (rooms .entry)) y (now (charges .entry))
+        (now (keys .entry)) r (now (charges .exit)) ⌝ }
 {
     if n == 0 {
         return Ran {
@@ -104,14 +104,14 @@ fn answered(
             answer: Answer::RunPastCap,
         };
     }
-    charged(lines, rooms, y, sizes, priorities, clusters, charges, n)
+    charged(lines, rooms, y, sizes, keys, clusters, charges, n)
 }
 
 // Run n. It changes the service of the queues, and nothing else of them.
 pub fn run<'a>(
     q: Queues,
     sizes: &'a [u8; 8],
-    priorities: &'a [u16; 64],
+    keys: &'a [u32; 64],
     clusters: usize,
     cap: u16,
     tidy: u16,
@@ -120,25 +120,15 @@ pub fn run<'a>(
 ) -> Outcome
     requires { ⌜ clusters ≤ maxClusters ⌝ }
     ensures { λ r.
-        ⌜ Answering (λ v. (now (sizes .entry) ≡ v .sizes) × (now (priorities .entry) ≡ v .priorities)
-        × (clusters ≡ v .clusters) × (cap ≡ v .cap) × (tidy ≡ v .tidy)) (rules.run n) q (now (charges .entry)) r
-        (now (charges .exit)) ⌝ }
+        ⌜ Answering (λ v. (now (sizes .entry) ≡ v .sizes) × (clusters ≡ v .clusters) × (cap ≡ v .cap)
+        × (tidy ≡ v .tidy)) (rules.run n) q (now (charges .entry)) (now (keys .entry)) r (now (charges .exit))
+        (now (keys .entry)) ⌝ }
 {
     let lines = q.lines;
     let y = q.service;
     let server = y.server;
     let most = serving::cap_of(server, cap, tidy);
-    let r = answered(
-        lines,
-        &q.rooms,
-        y,
-        sizes,
-        priorities,
-        clusters,
-        most,
-        charges,
-        n,
-    );
+    let r = answered(lines, &q.rooms, y, sizes, keys, clusters, most, charges, n);
     let after = r.service;
     let answer = r.answer;
     let mut next = q;

@@ -43,7 +43,7 @@ returns-3 c =
     λ q lines rooms service v s e h.
     let idle = c .before .before .before .is-idle .ensures ∙ ap isIdle (rw service at (h .queues .service .server)) in
     let past = c .before .passes-cap .ensures
-    ∙ ap₂ (λ l m. ltb l (m + n)) (e .3 ∙ ap (capOf (setupOf v)) (rw service at (h .queues .service .server)))
+    ∙ ap₂ (λ l m. ltb l (m + n)) (e .2 ∙ ap (capOf (setupOf v)) (rw service at (h .queues .service .server)))
     (rw service at (h .queues .service .units)) in
     rw (← service)
     (refuses h (known (run n)) RunPastCap (run-past v s idle n (c .before .before .before .before .if1 .left)
@@ -63,11 +63,11 @@ returns-4 c =
     λ q lines rooms service v s e h.
     let idle = b .is-idle .ensures ∙ ap isIdle (rw service at (h .queues .service .server)) in
     let past = c .before .before .before .passes-cap .ensures
-    ∙ ap₂ (λ l m. ltb l (m + n)) (e .3 ∙ ap (capOf (setupOf v)) (rw service at (h .queues .service .server)))
+    ∙ ap₂ (λ l m. ltb l (m + n)) (e .2 ∙ ap (capOf (setupOf v)) (rw service at (h .queues .service .server)))
     (rw service at (h .queues .service .units)) in
     run-charges v s idle n (b .before .if1 .left) (c .before .before .before .before .if2 .left) past
     (c .before .before .if3 .left)
-    (c .charged .ensures q lines rooms service v s (e .0, e .1, e .2) h)
+    (c .charged .ensures q lines rooms service v s (e .0, e .1) h)
 
 pub answered-spec : {M : Type 1} → statement M
 answered-spec =

@@ -19,11 +19,11 @@ returns : tie.Need-returns
 returns c =
     let n = c .before .before .before .before .args .n in
     λ q lines rooms service v s e h.
-    let told = c .before .before .before .charged .ensures v s (e .0) (e .1) (e .2) (rw lines at (h .queues .lines))
+    let told = c .before .before .before .charged .ensures v s (e .0) (h .keys) (e .1) (rw lines at (h .queues .lines))
     (sym rooms ∙ h .queues .rooms) (h .sound) in
     rw (← service)
-    (charges-over n (c .before .overcharges .ensures ∙ overcharges-is v (h .sound) (h .charges) told n)
-    (c .if1 .taken) h)
+    (charges-over n (c .before .overcharges .ensures ∙ overcharges-is v (h .sound) (h .charges) told n) h
+    (c .if1 .taken))
 
 charge-requires : tie.Need-charge-requires
 charge-requires c κs = sym (c .before .before .overcharges .ensures) ∙ c .before .if1 .left
@@ -37,9 +37,9 @@ returns-2 c =
     let b = c .before .before .before in
     let n = b .before .before .before .before .args .n in
     λ q lines rooms service v s e h.
-    let told = b .before .before .before .charged .ensures v s (e .0) (e .1) (e .2) (rw lines at (h .queues .lines))
+    let told = b .before .before .before .charged .ensures v s (e .0) (h .keys) (e .1) (rw lines at (h .queues .lines))
     (sym rooms ∙ h .queues .rooms) (h .sound) in
-    charges-fine n (b .before .overcharges .ensures ∙ overcharges-is v (h .sound) (h .charges) told n) (b .if1 .left)
+    charges-fine n (b .before .overcharges .ensures ∙ overcharges-is v (h .sound) (h .charges) told n) h (b .if1 .left)
     (rw (← service, h .queues .service .units)
     (shows-charge (shows-server (h .queues) (h .queues .service .server) (h .queues .service .fits)) _))
     (c .before .charge .ensures ∙ charges-ran v (h .sound) (h .charges) told n)

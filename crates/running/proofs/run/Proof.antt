@@ -15,7 +15,7 @@ returns : tie.Need-returns
 returns c =
     λ v s e h.
     c .before .answered .ensures _ refl refl refl v s
-    (e .0, e .1, e .2, rw (← e .3, ← e .4) (c .before .before .before .before .before .cap-of .ensures)) h
+    (e .0, e .1, rw (← e .2, ← e .3) (c .before .before .before .before .before .cap-of .ensures)) h
 
 pub run-spec : {M : Type 1} → statement M
 run-spec = tie.close (tie.spec cap-of-requires answered-requires returns)
