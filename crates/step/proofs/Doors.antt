@@ -40,7 +40,7 @@ in-range {v} h long =
       server = rw (h .queues .service .server) (h .queues .service .fits);
     }
 
-module _ (v : Setup) (q : Queues) (cs ds : List ℕ) 
+module _ (v : Setup) (q : Queues) (cs ds : List ℕ)
     (long : length (v .priorities) ≡ maxClients) (h : soundOf (gateOf v q cs ds) ≡ true) where
   -- the state that they show
   abbrev now : State

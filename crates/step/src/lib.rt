@@ -75,16 +75,7 @@ pub fn sound_step<'a>(
             true,
             d,
         ),
-        Event::Run(t) => running::run(
-            q,
-            sizes,
-            keys,
-            gate::wide(clusters),
-            cap,
-            tidy,
-            charges,
-            t,
-        ),
+        Event::Run(t) => running::run(q, sizes, keys, gate::wide(clusters), cap, tidy, charges, t),
         Event::Reply => calls::reply(q, homes, sizes, timed, keys),
         Event::Abort(c) => calls::abort(q, kinds, homes, sizes, n, timed, keys, c),
         Event::Ready => calls::ready(q),
@@ -135,7 +126,13 @@ pub fn sound_record<'a>(
 }
 
 // The same, with the gate put together after.
-fn joined_record(s: Setup, q: Queues, charges: [u32; 64], deadlines: [u32; 64], h: Heard) -> Answered
+fn joined_record(
+    s: Setup,
+    q: Queues,
+    charges: [u32; 64],
+    deadlines: [u32; 64],
+    h: Heard,
+) -> Answered
     requires { ⌜ soundOf (gateOf s q charges deadlines) ≡ true ⌝ }
     ensures { λ r. ⌜ toldIn r ≡ stepped (gateOf s q charges deadlines) (heardIn h) ⌝ }
 {
@@ -202,8 +199,14 @@ pub fn step(g: Gate, e: Event) -> Answered
 // A raw record, code, argument and deadline, as the newest logs have it, on any gate: 19 before 18.
 pub fn step_record(g: Gate, code: u8, argument: u16, deadline: u32) -> Answered
     ensures { λ r. ⌜ toldIn r ≡ stepped g (heardOf newest (g .setup .timed) (record {
-        code = code; argument = argument; deadline = deadline })) ⌝ }
+      code = code;
+      argument = argument;
+      deadline = deadline;
+    })) ⌝ }
 {
     let s = g.setup;
-    step_heard(g, heard_in(NEWEST_VERSION, s.timed, code, argument, deadline))
+    step_heard(
+        g,
+        heard_in(NEWEST_VERSION, s.timed, code, argument, deadline),
+    )
 }

@@ -16,8 +16,7 @@ due-requires c κs = search needs
 
 returns : tie.Need-returns
 returns c =
-    let b = c .before .before .before .before .before in
-    (
+    let b = c .before .before .before .before .before in (
       rw (← b .is-real-time .ensures, c .before .before .before .before .if1 .taken) (c .before .before .reset .ensures),
       rw (← b .is-real-time .ensures, c .before .before .before .before .if1 .taken) (c .due .ensures),
     )
