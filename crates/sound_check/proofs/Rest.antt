@@ -44,7 +44,6 @@ pub record Lengths (g : Gate) : Type 0 where
   pub global : length (g .global) ≡ maxClusters
   pub charges : length (g .charges) ≡ maxClients
   pub deadlines : length (g .deadlines) ≡ maxClients
-  pub homes : length (g .setup .homes) ≡ maxClients
 
 -- a clause that is answered, before the others
 module _ {a r : Bool} (p : r ≡ a) where
@@ -54,6 +53,11 @@ module _ {a r : Bool} (p : r ≡ a) where
   pub fails : r ≡ false → (b : Bool) → a && b ≡ false
   fails e b = rw (sym p ∙ e)
 
+-- the charges and the deadlines, by the sets of the real-time clients and of those seen in a line
+abbrev pub accountsFit : Gate → ℕ → ℕ → Bool
+accountsFit g real seen =
+    chargesFit real (g .charges) && deadlinesFit (g .setup .homes) (g .rooms) (g .setup .timed) seen (g .deadlines)
+
 -- the clauses but the first two, by the sets of the setup's clients, of the fronts, of those to be queued, and of those
 -- seen in a line
 abbrev pub restFits : Gate → Clients → ℕ → ℕ → ℕ → ℕ → Bool
@@ -61,9 +65,7 @@ restFits g cs fronts queue seen standing =
     roomsFit (g .setup .sizes) (cs .own) standing (g .lines) (g .rooms)
     && (globalFits queue (g .global)
     && (serverFits cs (g .setup .homes) (g .rooms) fronts standing (g .units) (serverOf (g .server))
-    && (leb (g .units) (capOf (setupOf (g .setup)) (serverOf (g .server)))
-    && (chargesFit (cs .real) (g .charges)
-    && deadlinesFit (g .setup .homes) (g .rooms) (g .setup .timed) seen (g .deadlines)))))
+    && (leb (g .units) (capOf (setupOf (g .setup)) (serverOf (g .server))) && accountsFit g (cs .real) seen)))
 
 module _ (g : Gate) (e : setupSound (g .setup) ≡ true) where
   abbrev v : Setup

@@ -2,9 +2,9 @@
 -- Assumes nothing.
 use Prim.Native.Nat.{ℕ, _<_}
 use mathlib.Core.Path.{_≡_, sym, ap, _∙_}
-use mathlib.Core.Bool.{Bool, true, false, _&&_, _||_, cond}
+use mathlib.Core.Bool.{true, _&&_, _||_, cond}
 use mathlib.Core.List.{List}
-use mathlib.Core.Option.{Option, some, none}
+use mathlib.Core.Option.{some, none}
 use native.Mathlib.Omega.{arith}
 use lib.Dec.{eqb, leb}
 use lib.ListN.{length, getD}
@@ -19,7 +19,7 @@ use Rattle.gate.specs.declared.Gate.{Gate}
 use Rattle.gate.specs.Shown.{setupOf, stateOf}
 use Rattle.parts.specs.Shows.{Fine}
 use Rattle.soundness.specs.Tests.{distinct, joined, setIn}
-use Rattle.soundness.specs.Clauses.{linesSound, deadlineSound, deadlinesSound}
+use Rattle.soundness.specs.Clauses.{linesSound, deadlinesSound}
 use Rattle.soundness.proofs.Tests.{all-same}
 use Rattle.soundness.proofs.Joined.{joined-has, has-joined}
 use Rattle.soundness.proofs.Sets.{set-has}
@@ -27,7 +27,7 @@ use Rattle.soundness.proofs.Facts.{lines-facts}
 use Rattle.standing.specs.Answers.{linesIn, seenFrom}
 use Rattle.standing.proofs.Once.{seen-once}
 use Rattle.standing.proofs.Standing.{in-lines}
-use Rattle.sound_check.specs.Answers.{deadlineFits, deadlinesFit}
+use Rattle.sound_check.specs.Answers.{deadlinesFit}
 
 module _ (g : Gate) (fine : Fine (g .setup)) (sound : linesSound (setupOf (g .setup)) (g .lines) ≡ true) where
   abbrev u : rules.Setup

@@ -40,7 +40,7 @@ fn charges_sound(q: &[u32; 64], real: u64) -> bool
 
 // DEADLINES
 
-// A deadline is 0; or the setup goes by deadlines and its owner waits: is among those in a line, or in its waiting room.
+// A deadline is 0; or the setup goes by deadlines and its owner waits: is seen in a line, or is in its waiting room.
 fn deadline_sound(
     homes: &[u8; 64],
     rooms: [u64; 8],

@@ -1,10 +1,8 @@
 -- `sound_check::deadline_sound` meets its contract.
 -- Assumes nothing.
 use Prim.Native.Nat.{_<_}
-use mathlib.Core.Path.{_≡_, sym, _∙_}
-use mathlib.Core.Bool.{true}
+use mathlib.Core.Path.{sym, _∙_}
 use native.Mathlib.Omega.{arith}
-use lib.Dec.{leb}
 use borrow.Author.Tests.{eq-eqb, ne-eqb, le-leb, not-true, not-false}
 use borrow.Author.Needs.{needs}
 use Rattle.rules.specs.Limits.{maxClusters, maxDeadline}
