@@ -1,2 +1,3 @@
--- The whole test by the parts of a gate.
+-- Who waits, and the whole test by the parts of a gate.
+pub mod Waiting
 pub mod Rest

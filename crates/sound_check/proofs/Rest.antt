@@ -31,18 +31,19 @@ use Rattle.setup_check.specs.declared.Clients.{Clients}
 use Rattle.standing.proofs.Once.{andThen}
 use Rattle.standing.proofs.Standing.{standing-is}
 use Rattle.fronts.specs.Answers.{thenTest, firstsOf, queuedOf, globalFits, serverFits}
-use Rattle.sound_check.specs.Answers.{chargesFit}
+use Rattle.sound_check.specs.Answers.{chargesFit, deadlinesFit}
 use Rattle.setup_check.proofs.Members.{in-set, less-is, clients, real-is, effort-is, own-known, own-is}
 use Rattle.standing.proofs.Rooms.{room-is}
 use Rattle.fronts.proofs.Fronts.{first-is}
 use Rattle.fronts.proofs.Globals.{global-is}
+use Rattle.sound_check.proofs.Waiting.{deadlines-are}
 
 -- of the arrays that the clauses are handed
 pub record Lengths (g : Gate) : Type 0 where
   pub background : length (g .background) ≡ maxClients
   pub global : length (g .global) ≡ maxClusters
   pub charges : length (g .charges) ≡ maxClients
-  pub homes : length (g .setup .homes) ≡ maxClients
+  pub deadlines : length (g .deadlines) ≡ maxClients
 
 -- a clause that is answered, before the others
 module _ {a r : Bool} (p : r ≡ a) where
@@ -52,13 +53,19 @@ module _ {a r : Bool} (p : r ≡ a) where
   pub fails : r ≡ false → (b : Bool) → a && b ≡ false
   fails e b = rw (sym p ∙ e)
 
--- the clauses but the first two, by the sets of the setup's clients, of the fronts, and of those to be queued
-abbrev pub restFits : Gate → Clients → ℕ → ℕ → ℕ → Bool
-restFits g cs fronts queue standing =
+-- the charges and the deadlines, by the sets of the real-time clients and of those seen in a line
+abbrev pub accountsFit : Gate → ℕ → ℕ → Bool
+accountsFit g real seen =
+    chargesFit real (g .charges) && deadlinesFit (g .setup .homes) (g .rooms) (g .setup .timed) seen (g .deadlines)
+
+-- the clauses but the first two, by the sets of the setup's clients, of the fronts, of those to be queued, and of those
+-- seen in a line
+abbrev pub restFits : Gate → Clients → ℕ → ℕ → ℕ → ℕ → Bool
+restFits g cs fronts queue seen standing =
     roomsFit (g .setup .sizes) (cs .own) standing (g .lines) (g .rooms)
     && (globalFits queue (g .global)
     && (serverFits cs (g .setup .homes) (g .rooms) fronts standing (g .units) (serverOf (g .server))
-    && (leb (g .units) (capOf (setupOf (g .setup)) (serverOf (g .server))) && chargesFit (cs .real) (g .charges))))
+    && (leb (g .units) (capOf (setupOf (g .setup)) (serverOf (g .server))) && accountsFit g (cs .real) seen)))
 
 module _ (g : Gate) (e : setupSound (g .setup) ≡ true) where
   abbrev v : Setup
@@ -145,7 +152,7 @@ module _ (g : Gate) (e : setupSound (g .setup) ≡ true) where
 
     rest-is : length (g .global) ≡ maxClusters → (standing : ℕ)
         → restFits g cs (firstsOf (g .lines) maxClusters)
-        (queuedOf (v .homes) (cs .own) (serverOf (g .server)) (firstsOf (g .lines) maxClusters)) standing
+        (queuedOf (v .homes) (cs .own) (serverOf (g .server)) (firstsOf (g .lines) maxClusters)) t standing
         ≡ restSound u g s standing
     unfolding restSound stateOf
     rest-is n standing =
@@ -154,6 +161,7 @@ module _ (g : Gate) (e : setupSound (g .setup) ≡ true) where
           global-is g fine ok sound (g .global) n,
           server-is standing (serverOf (g .server)),
           charges-are,
+          deadlines-are g fine sound t (rw (lines-are, sound) at seen),
         )
 
   -- AS FAR AS IT IS SEEN
@@ -171,6 +179,6 @@ module _ (g : Gate) (e : setupSound (g .setup) ≡ true) where
       pub by-rest : {z : ℕ} → some z ≡ queueSeen (member (found .effort)) (g .background) t
           → {fronts queue : ℕ} → fronts ≡ firstsOf (g .lines) maxClusters
           → queue ≡ queuedOf (v .homes) (found .own) (serverOf (g .server)) fronts
-          → soundOf g ≡ restFits g found fronts queue z
+          → soundOf g ≡ restFits g found fronts queue t z
       by-rest {z} q f e =
           by-queue q ∙ rw (e, f, same) (sym (rest-is t (rw same at (sym p)) (n .global) z))

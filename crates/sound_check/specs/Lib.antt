@@ -1,2 +1,2 @@
--- What a function of this crate answers. Nothing is proved here. Assumes nothing.
+-- What functions of this crate answer. Nothing is proved here. Assumes nothing.
 pub mod Answers

@@ -2,11 +2,13 @@
 
 use gate::Gate;
 use standing::Seen;
+ghost use Prim.Native.Nat.{_<_};
 ghost use mathlib.Core.Path.{_≡_};
 ghost use lib.ListN.{length};
 ghost use Rattle.rules.specs.Limits.{maxClients};
+ghost use Rattle.parts.specs.Shows.{Homes};
 ghost use Rattle.soundness.specs.Clauses.{soundOf};
-ghost use Rattle.sound_check.specs.Answers.{chargeFits, chargesFit};
+ghost use Rattle.sound_check.specs.Answers.{chargeFits, chargesFit, deadlineFits, deadlinesFit};
 
 // CHARGES
 
@@ -29,6 +31,53 @@ fn charges_sound(q: &[u32; 64], real: u64) -> bool
     let mut c: usize = 0;
     while c < Gate::MAX_CLIENTS {
         if !charge_sound(real, c, q[c]) {
+            return false;
+        }
+        c += 1;
+    }
+    true
+}
+
+// DEADLINES
+
+// A deadline is 0; or the setup goes by deadlines and its owner waits: is seen in a line, or is in its waiting room.
+fn deadline_sound(
+    homes: &[u8; 64],
+    rooms: [u64; 8],
+    timed: bool,
+    seen: u64,
+    owner: usize,
+    d: u32,
+) -> bool
+    requires { ⌜ (owner < maxClients) × Homes (now homes) ⌝ }
+    ensures { λ r. ⌜ r ≡ deadlineFits (now (homes .entry)) rooms timed seen owner d ⌝ }
+{
+    if d == 0 {
+        return true;
+    }
+    if !timed {
+        return false;
+    }
+    if sets::member(seen, owner) {
+        return true;
+    }
+    let k = gate::wide(homes[owner]);
+    sets::member(rooms[k], owner)
+}
+
+fn deadlines_sound<'a>(
+    q: &'a [u32; 64],
+    homes: &'a [u8; 64],
+    rooms: [u64; 8],
+    timed: bool,
+    seen: u64,
+) -> bool
+    requires { ⌜ (length (now q) ≡ maxClients) × Homes (now homes) ⌝ }
+    ensures { λ r. ⌜ r ≡ deadlinesFit (now (homes .entry)) rooms timed seen (now (q .entry)) ⌝ }
+{
+    let mut c: usize = 0;
+    while c < Gate::MAX_CLIENTS {
+        if !deadline_sound(homes, rooms, timed, seen, c, q[c]) {
             return false;
         }
         c += 1;
@@ -72,5 +121,8 @@ pub fn sound(g: Gate) -> bool
     if g.units > (cap as u32) {
         return false;
     }
-    charges_sound(&g.charges, clients.real)
+    if !charges_sound(&g.charges, clients.real) {
+        return false;
+    }
+    deadlines_sound(&g.deadlines, &s.homes, rooms, s.timed, seen)
 }

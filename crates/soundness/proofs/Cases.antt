@@ -1,6 +1,6 @@
 -- The definition, tried on gates that are written out: each case computes. Document 01's setup, K = 1, m = 1, L = 10
 -- and four clients, the last of them best-effort: the gate after invoke 3, 2 and 1, and that with one thing wrong.
--- Where it takes two clusters, client 2 is of the second. W is 20, or 5 where that is said.
+-- Where it takes two clusters, client 2 is of the second. W is 20, or 5 where that is said. It goes by priorities.
 -- Assumes nothing.
 use Prim.Native.Nat.{ℕ, suc}
 use mathlib.Core.Path.{_≡_, refl}
@@ -20,7 +20,7 @@ use Rattle.gate.specs.Shown.{stateOf, shown, table, client}
 use Rattle.soundness.specs.Tests.{every, allBelow, distinct, joined, setIn, firstIn}
 use Rattle.soundness.specs.Clauses.{soundOf, setupSound, isTrimmed, laid, lineSound, linesSound}
 use Rattle.soundness.specs.Clauses.{backgroundSound, roomSound, roomsSound, globalSound, chargesSound}
-use Rattle.soundness.specs.Clauses.{standSound, restSound}
+use Rattle.soundness.specs.Clauses.{deadlinesSound, standSound, restSound}
 
 -- W, K and the sizes, the cluster of client 2, and the priority of the row past N
 abbrev capped : ℕ → ℕ → List ℕ → ℕ → ℕ → Setup
@@ -29,6 +29,7 @@ capped w n sizes home p = record {
   clients = 4;
   cap = 10;
   tidy = w;
+  timed = false;
   sizes = table 8 (λ (k : ℕ). getD sizes k 0);
   kinds = table 64 (λ (c : ℕ). cond (eqb c 3) 1 0);
   homes = table 64 (λ (c : ℕ). cond (eqb c 2) home 0);
@@ -42,10 +43,10 @@ clustered n sizes home p = capped 20 n sizes home p
 abbrev setup : ℕ → ℕ → Setup
 setup m p = clustered 1 (m ∷ []) 0 p
 
-abbrev line : List ℕ → List ℕ
+abbrev pub line : List ℕ → List ℕ
 line l = pad 8 l
 
-abbrev queue : List ℕ → List ℕ
+abbrev pub queue : List ℕ → List ℕ
 queue l = pad 64 l
 
 -- of setup v: the first lines and rooms, the queues, the server with its units, and the charge of one client
@@ -59,22 +60,23 @@ gateWith v lines rooms global background server units c charge = record {
   server = server;
   units = units;
   charges = table 64 (λ (d : ℕ). cond (eqb d c) charge 0);
+  deadlines = table 64 (λ (d : ℕ). 0);
 }
 
 -- with the line and room of cluster 0 alone
-abbrev gate : Setup → List ℕ → ℕ → List ℕ → List ℕ → Server → ℕ → ℕ → ℕ → Gate
+abbrev pub gate : Setup → List ℕ → ℕ → List ℕ → List ℕ → Server → ℕ → ℕ → ℕ → Gate
 gate v l room global background server units c charge =
     gateWith v (l ∷ []) (room ∷ []) global background server units c charge
 
 -- client 2 is the front, 1 waits, 3 is served
-abbrev usual : Setup → List ℕ → ℕ → List ℕ → List ℕ → Gate
+abbrev pub usual : Setup → List ℕ → ℕ → List ℕ → List ℕ → Gate
 usual v l room global background = gate v l room global background (Best (client 3)) 10 1 30
 
 -- nobody waits
-abbrev still : Server → ℕ → ℕ → ℕ → Gate
+abbrev pub still : Server → ℕ → ℕ → ℕ → Gate
 still server units c charge = gate (setup 1 0) (line []) 0 (line []) (queue []) server units c charge
 
-abbrev ok : Setup
+abbrev pub ok : Setup
 ok = setup 1 0
 
 -- two clusters, with client 2 in the second
@@ -97,7 +99,7 @@ tidies global = gateWith pair (line (0 ∷ []) ∷ line (2 ∷ []) ∷ []) (2 �
 abbrev tidiesBriefly : ℕ → Gate
 tidiesBriefly units = gate (capped 5 1 (1 ∷ []) 0 0) (line []) 0 (line []) (queue []) Tidying units 1 30
 
-abbrev Tells : Gate → Bool → Type 0
+abbrev pub Tells : Gate → Bool → Type 0
 Tells g b = soundOf g ≡ b
 
 sound-gates :
@@ -109,7 +111,7 @@ sound-gates :
     × Tells (two (line (0 ∷ []) ∷ line (2 ∷ []) ∷ []) (2 ∷ []) (line (0 ∷ 2 ∷ []))) true
 unfolding setupAnswer member setOf pad unpad usedFirst holdsOnly stateOf shown table every allBelow distinct joined
     setIn firstIn soundOf setupSound isTrimmed laid lineSound linesSound backgroundSound roomSound roomsSound
-    globalSound chargesSound standSound restSound
+    globalSound chargesSound deadlinesSound standSound restSound
 sound-gates = (refl, refl, refl, refl, refl, refl, refl)
 
 unsound-gates :
@@ -155,7 +157,7 @@ unsound-gates :
     × Tells (still Idle 0 3 1) false × Tells (still Idle 0 4 1) false
 unfolding setupAnswer member setOf pad unpad usedFirst holdsOnly stateOf shown table every allBelow distinct joined
     setIn firstIn soundOf setupSound isTrimmed laid lineSound linesSound backgroundSound roomSound roomsSound
-    globalSound chargesSound standSound restSound
+    globalSound chargesSound deadlinesSound standSound restSound
 unsound-gates = (
   refl,
   refl,
@@ -213,7 +215,7 @@ tidying-gates :
     × Tells (tidies (line (2 ∷ []))) false × Tells (tidies (line (0 ∷ 2 ∷ 1 ∷ []))) false
 unfolding setupAnswer member setOf pad unpad usedFirst holdsOnly stateOf shown table every allBelow distinct joined
     setIn firstIn soundOf setupSound isTrimmed laid lineSound linesSound backgroundSound roomSound roomsSound
-    globalSound chargesSound standSound restSound
+    globalSound chargesSound deadlinesSound standSound restSound
 tidying-gates = (
   refl,
   refl,

@@ -24,7 +24,7 @@ use Rattle.gate.specs.Shown.{setupOf, blankLine}
 use Rattle.soundness.specs.Tests.{every, allBelow, zeros, distinct, setIn}
 use Rattle.soundness.specs.Clauses.{isTrimmed, setupSound, laid, isReal, ofCluster, lineSound, linesSound}
 use Rattle.soundness.specs.Clauses.{backgroundSound, roomSound, roomsSound, globalSound, serverSound}
-use Rattle.soundness.specs.Clauses.{chargesSound, standSound, restSound}
+use Rattle.soundness.specs.Clauses.{chargesSound, deadlinesSound, standSound, restSound}
 use Rattle.soundness.proofs.Tests.{every-has, all-at, zeros-past, past-zeros}
 
 -- CLAUSES
@@ -38,6 +38,7 @@ pub record Clauses (u : rules.Setup) (g : Gate) (s : State) (all : List ℕ) : T
   pub server : serverSound u (setIn all) s (s .server) ≡ true
   pub units : leb (s .units) (capOf u (s .server)) ≡ true
   pub charges : chargesSound u (g .charges) ≡ true
+  pub deadlines : deadlinesSound u s (g .deadlines) ≡ true
 
 module _ (u : rules.Setup) (g : Gate) (s : State) (all : List ℕ) where
   pub clauses : standSound u (g .lines) (g .background) all ≡ true → restSound u g s (setIn all) ≡ true
@@ -49,7 +50,8 @@ module _ (u : rules.Setup) (g : Gate) (s : State) (all : List ℕ) where
       let d = both-true (roomsSound u (setIn all) (s .lines) (g .rooms)) _ q in
       let f = both-true (globalSound u s (g .global)) _ (d .1) in
       let h = both-true (serverSound u (setIn all) s (s .server)) _ (f .1) in
-      let i = both-true (leb (s .units) (capOf u (s .server))) (chargesSound u (g .charges)) (h .1) in
+      let i = both-true (leb (s .units) (capOf u (s .server))) _ (h .1) in
+      let j = both-true (chargesSound u (g .charges)) (deadlinesSound u s (g .deadlines)) (i .1) in
       record {
         lines = a .0;
         background = b .0;
@@ -58,7 +60,8 @@ module _ (u : rules.Setup) (g : Gate) (s : State) (all : List ℕ) where
         global = f .0;
         server = h .0;
         units = i .0;
-        charges = i .1;
+        charges = j .0;
+        deadlines = j .1;
       }
 
   pub clauses-stand : Clauses u g s all → standSound u (g .lines) (g .background) all ≡ true
@@ -67,7 +70,7 @@ module _ (u : rules.Setup) (g : Gate) (s : State) (all : List ℕ) where
 
   pub clauses-rest : Clauses u g s all → restSound u g s (setIn all) ≡ true
   unfolding restSound
-  clauses-rest c = rw (c .rooms, c .global, c .server, c .units) (c .charges)
+  clauses-rest c = rw (c .rooms, c .global, c .server, c .units, c .charges) (c .deadlines)
 
 -- THE SETUP
 

@@ -8,13 +8,13 @@ use native.Mathlib.Omega.{arith}
 use lib.Dec.{eqb, ltb, leb}
 use lib.ListN.{length}
 use borrow.Author.Tests.{eqb-true, eq-eqb, ltb-false, lt-ltb, le-leb}
-use Rattle.rules.specs.Limits.{maxClusters, maxClients, maxCharge}
+use Rattle.rules.specs.Limits.{maxClusters, maxClients, maxCharge, maxDeadline}
 use Rattle.rules.specs.Lists.{has, heads}
 use Rattle.rules.specs.Setup as rules
 use Rattle.rules.specs.Setup.{realTime}
 use Rattle.rules.specs.State as state
 use Rattle.rules.specs.State.{State, idle, front, best, spent, tidying, capOf}
-use Rattle.rules.specs.Queues.{inRoom}
+use Rattle.rules.specs.Queues.{inRoom, waits}
 use Rattle.rules.specs.Sound.{Sound, ServerSound, queued}
 use Rattle.rules.proofs.Tests.{by-test, clash, not-so, both-true}
 use Rattle.rules.proofs.Lists.{heads-has}
@@ -29,6 +29,7 @@ use Rattle.parts.proofs.SoundShows.{sound-shows}
 use Rattle.soundness.specs.Tests.{setIn, firstIn}
 use Rattle.soundness.specs.Clauses.{ofCluster, everyone}
 use Rattle.soundness.specs.Clauses.{roomSound, roomsSound, globalSound, serverSound, chargeSound, chargesSound}
+use Rattle.soundness.specs.Clauses.{deadlineSound, deadlinesSound}
 use Rattle.soundness.proofs.Tests.{and-both, has-every, at-all, is-distinct}
 use Rattle.soundness.proofs.Sets.{set-has}
 use Rattle.soundness.proofs.Facts.{Clauses, in-cluster}
@@ -168,6 +169,24 @@ module _ (v : Setup) (s : State) (h : Sound (setupOf v) s) where
           (λ e. by-test (realTime u c) (λ r. rw (e, r)) (λ r. rw (e, r, k .effort r)))
           (λ e. rw (e, k .past (ltb-false c (u .clients) e))))
 
+  -- DEADLINES
+
+  deadlines-pass : deadlinesSound u s (table maxClients (s .deadline)) ≡ true
+  unfolding deadlinesSound
+  deadlines-pass =
+      rw (length-table maxClients (s .deadline))
+      (at-all maxClients _ (λ c b. rw (table-at maxClients (s .deadline) c 0 b) (go c)))
+    where
+      go : (c : ℕ) → deadlineSound u s c (s .deadline c) ≡ true
+      go c =
+          let k = h .deadline c in
+          rw (le-leb (s .deadline c) maxDeadline (k .bits))
+          (by-test (u .timed)
+          (λ t. by-test (waits u s c)
+          (λ e. rw (t, e) (or-true (eqb (s .deadline c) 0)))
+          (λ e. rw (eq-eqb (s .deadline c) 0 (k .away e))))
+          (λ t. rw (eq-eqb (s .deadline c) 0 (k .untimed t))))
+
   pub shown-clauses : Clauses u (shown v s) s all
   unfolding shown
   shown-clauses =
@@ -180,4 +199,5 @@ module _ (v : Setup) (s : State) (h : Sound (setupOf v) s) where
         server = server-pass (s .server) (h .server);
         units = le-leb (s .units) (capOf u (s .server)) (h .units);
         charges = charges-pass;
+        deadlines = deadlines-pass;
       }

@@ -10,3 +10,4 @@ pub mod FromSound
 pub mod Exact
 pub mod Tidying
 pub mod Cases
+pub mod DeadlineCases

@@ -1,19 +1,20 @@
--- Of a gate that passes the test: its lines, its background queue and its charges are sound.
+-- Of a gate that passes the test: its lines, its background queue, its charges and its deadlines are sound.
 -- Assumes nothing.
 use Prim.Native.Nat.{ℕ, _≤_, _<_}
 use mathlib.Core.Path.{_≡_, refl}
-use mathlib.Core.Bool.{Bool, true, false, not, _&&_, _||_}
+use mathlib.Core.Bool.{Bool, true, false, not, _&&_, _||_, or-false, and-false}
 use mathlib.Core.List.{List, []}
 use native.Mathlib.Omega.{arith}
 use lib.Dec.{eqb, ltb, leb}
 use lib.ListN.{length, getD, List·getD-eq-default}
 use borrow.Author.Tests.{eqb-true, ltb-true, ltb-false, leb-true, le-ltb, not-true}
-use Rattle.rules.specs.Limits.{maxClusters, maxClients, maxCharge}
+use Rattle.rules.specs.Limits.{maxClusters, maxClients, maxCharge, maxDeadline}
 use Rattle.rules.specs.Lists.{has, Distinct}
 use Rattle.rules.specs.Setup as rules
 use Rattle.rules.specs.Setup.{realTime, Accepted, Trimmed}
 use Rattle.rules.specs.State.{State}
-use Rattle.rules.specs.Sound.{LineSound, BackgroundSound, ChargeSound}
+use Rattle.rules.specs.Queues.{waits}
+use Rattle.rules.specs.Sound.{LineSound, BackgroundSound, ChargeSound, DeadlineSound}
 use Rattle.rules.proofs.Tests.{by-test, clash, not-so, either-true, both-true}
 use Rattle.rules.proofs.Lists.{has-append, no-first, distinct-right}
 use Rattle.rules.proofs.Setups.{Allowed, allowed}
@@ -26,7 +27,7 @@ use Rattle.parts.specs.Shows.{Fine}
 use Rattle.parts.proofs.SoundShows.{accepted-fine}
 use Rattle.soundness.specs.Tests.{every, allBelow, joined, setIn}
 use Rattle.soundness.specs.Clauses.{laid, ofBackground, backgroundSound, everyone}
-use Rattle.soundness.specs.Clauses.{isReal, chargeSound, chargesSound}
+use Rattle.soundness.specs.Clauses.{isReal, chargeSound, chargesSound, deadlineSound, deadlinesSound}
 use Rattle.soundness.proofs.Tests.{every-has, all-at, distinct-is}
 use Rattle.soundness.proofs.Joined.{not-appended, distinct-left, joined-has, has-joined, joined-distinct}
 use Rattle.soundness.proofs.Sets.{set-has}
@@ -155,4 +156,32 @@ module _ (g : Gate) (a : Accepted (setupOf (g .setup))) (t : Trimmed (setupOf (g
                 clash (both-true (ltb d (u .clients)) (realTime u d) q .1) r));
             past = λ b. zero-unless (rw (le-ltb d (u .clients) b));
             limit = leb-true (s .charge d) maxCharge (w .0);
+          }
+
+  -- DEADLINES
+
+  pub deadline-facts : (length (g .deadlines) ≡ maxClients) × ((d : ℕ) → DeadlineSound u s d)
+  unfolding deadlinesSound stateOf
+  deadline-facts =
+      let test : ℕ → Bool = λ d. deadlineSound u s d (s .deadline d) in
+      let w = both-true (eqb (length (g .deadlines)) maxClients) (allBelow maxClients test) (c .deadlines) in
+      let l = eqb-true (length (g .deadlines)) maxClients (w .0) in (
+        l,
+        λ d. by-test (ltb d maxClients)
+            (λ e. one d (all-at maxClients test (w .1) d (ltb-true d maxClients e)))
+            (λ e.
+            let z : s .deadline d ≡ 0 =
+            List·getD-eq-default (g .deadlines) 0 {n = d} (omega (arith, l, ltb-false d maxClients e)) in
+            record { bits = omega (arith, z); away = λ n. z; untimed = λ n. z }),
+      )
+    where
+      one : (d : ℕ) → deadlineSound u s d (s .deadline d) ≡ true → DeadlineSound u s d
+      one d e =
+          let w = both-true (leb (s .deadline d) maxDeadline) _ e in
+          let zero-unless : (u .timed && waits u s d ≡ false) → s .deadline d ≡ 0 =
+          λ n. eqb-true (s .deadline d) 0 (rw (n, or-false (eqb (s .deadline d) 0)) at (w .1)) in
+          record {
+            bits = leb-true (s .deadline d) maxDeadline (w .0);
+            away = λ n. zero-unless (rw (n, and-false (u .timed)));
+            untimed = λ n. zero-unless (rw n);
           }

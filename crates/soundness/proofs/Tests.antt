@@ -64,6 +64,12 @@ all-not n p i h e = not-so (allBelow n p) (λ f. clash (all-at n p f i h) e)
 pub all-done : (n i : ℕ) (p : ℕ → Bool) → i ≤ n → n ≤ i → allBelow i p ≡ true → allBelow n p ≡ true
 all-done n i p a b e = let q : n ≡ i = omega arith in rw q e
 
+-- two tests that agree on all of them
+pub all-same : (n : ℕ) (p q : ℕ → Bool) → ((i : ℕ) → i < n → p i ≡ q i) → allBelow n p ≡ allBelow n q
+unfolding allBelow
+all-same zero p q h = refl
+all-same (suc n) p q h = rw (h n (omega arith), all-same n p q (λ i b. h i (omega arith)))
+
 -- ZEROS
 
 pub zeros-past : (n : ℕ) (q : List ℕ) → zeros (drop n q) ≡ true → (i : ℕ) → n ≤ i → getD q i 0 ≡ 0

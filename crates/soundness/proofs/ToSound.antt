@@ -198,6 +198,7 @@ module _ (g : Gate) (a : Accepted (setupOf (g .setup))) (t : Trimmed (setupOf (g
         server = server (s .server) (c .server) .0;
         units = leb-true (s .units) (capOf u (s .server)) (c .units);
         charge = stands.charge-facts g a t c .1;
+        deadline = stands.deadline-facts g a t c .1;
       }
 
   pub sound-laid : LaidOut g
@@ -228,4 +229,5 @@ module _ (g : Gate) (a : Accepted (setupOf (g .setup))) (t : Trimmed (setupOf (g
         };
         server = server (s .server) (c .server) .1;
         charges = stands.charge-facts g a t c .0;
+        deadlines = stands.deadline-facts g a t c .0;
       }

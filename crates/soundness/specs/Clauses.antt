@@ -5,13 +5,14 @@ use mathlib.Core.Bool.{Bool, true, not, _&&_, _||_}
 use mathlib.Core.List.{List, _++_}
 use lib.Dec.{eqb, ltb, leb}
 use lib.ListN.{length, getD, drop}
-use Rattle.rules.specs.Limits.{maxClusters, maxSize, maxClients, maxCap, maxTidy, maxCharge}
+use Rattle.rules.specs.Limits.{maxClusters, maxSize, maxClients, maxCap, maxTidy, maxCharge, maxDeadline}
 use Rattle.rules.specs.Lists.{heads}
 use Rattle.rules.specs.Refusals.{accepted}
 use Rattle.rules.specs.Setup as rules
 use Rattle.rules.specs.Setup.{realTime, setupAnswer}
 use Rattle.rules.specs.State as state
 use Rattle.rules.specs.State.{State, idle, front, best, spent, tidying, capOf}
+use Rattle.rules.specs.Queues.{waits}
 use Rattle.rules.specs.Sound.{queued}
 use Rattle.sets.specs.Sets.{member}
 use Rattle.places.specs.Places.{unpad, usedFirst}
@@ -121,6 +122,17 @@ module _ (u : rules.Setup) where
   chargesSound q =
       eqb (length q) maxClients && allBelow maxClients (λ (c : ℕ). chargeSound c (getD q c 0))
 
+  -- DEADLINES
+
+  -- A deadline has 32 bits. It is 0 unless the setup goes by deadlines and c waits, in its line or its waiting room.
+  abbrev pub deadlineSound : State → ℕ → ℕ → Bool
+  deadlineSound s c n = leb n maxDeadline && (eqb n 0 || (u .timed && waits u s c))
+
+  -- So it is 0 for every spent and best-effort client and past N.
+  unfoldable pub deadlinesSound : State → List ℕ → Bool
+  deadlinesSound s q =
+      eqb (length q) maxClients && allBelow maxClients (λ (c : ℕ). deadlineSound s c (getD q c 0))
+
   -- ALL OF THEM
 
   -- Who stands in a line or the background queue, and that nobody stands there twice.
@@ -134,7 +146,8 @@ module _ (u : rules.Setup) where
       roomsSound standing (s .lines) (g .rooms)
       && (globalSound s (g .global)
       && (serverSound standing s (s .server)
-      && (leb (s .units) (capOf u (s .server)) && chargesSound (g .charges))))
+      && (leb (s .units) (capOf u (s .server))
+      && (chargesSound (g .charges) && deadlinesSound s (g .deadlines)))))
 
 -- A gate is sound if its setup is, and its places and its state are.
 unfoldable pub soundOf : Gate → Bool

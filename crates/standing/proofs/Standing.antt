@@ -28,7 +28,8 @@ then-none none = refl
 then-none (some s) = refl
 
 module _ (u : rules.Setup) (few : u .clients ≤ maxClients) where
-  in-lines : (ls : List Line) → linesSound u ls ≡ true → (x : ℕ) → has x (joined (linesIn ls) 0 maxClusters) ≡ true
+  -- whoever is in a line is a client
+  pub in-lines : (ls : List Line) → linesSound u ls ≡ true → (x : ℕ) → has x (joined (linesIn ls) 0 maxClusters) ≡ true
       → x < maxClients
   in-lines ls e x h =
       joined-has (linesIn ls) 0 maxClusters x h (λ j a b i.

@@ -2,7 +2,7 @@
 -- Assumes nothing.
 use Prim.Native.Nat.{ℕ}
 use mathlib.Core.Path.{_≡_, refl, sym, ap, _∙_}
-use mathlib.Core.Bool.{true, _&&_}
+use mathlib.Core.Bool.{Bool, true, _&&_}
 use mathlib.Core.Option.{some}
 use native.Mathlib.Omega.{arith}
 use lib.Dec.{leb}
@@ -16,9 +16,9 @@ use Rattle.parts.specs.Shows.{Homes}
 use Rattle.soundness.specs.Clauses.{setupSound, soundOf}
 use Rattle.standing.specs.Answers.{seenOf, linesSeen}
 use Rattle.fronts.specs.Answers.{firstsOf, queuedOf, serverFits}
-use Rattle.sound_check.specs.Answers.{chargesFit}
 use Rattle.setup_check.proofs.Members.{clients}
-use Rattle.sound_check.proofs.Rest.{Lengths, passes, fails, fine, restFits, by-lines, by-queue, by-rest}
+use Rattle.sound_check.proofs.Rest.{Lengths, passes, fails, accountsFit, restFits}
+use Rattle.sound_check.proofs.Rest.{fine, by-lines, by-queue, by-rest}
 use Rattle.sound_check.proofs.sound.Statement.{statement}
 use Rattle.sound_check.proofs.sound.Tie as tie
 
@@ -35,7 +35,8 @@ wide-requires c κs = search needs
 -- THE SETUP
 
 lengths : (c : tie.After-setup-sound) → Lengths (c .before .before .args .t1)
-lengths c = record { background = search needs; global = search needs; charges = search needs; homes = search needs }
+lengths c =
+    record { background = search needs; global = search needs; charges = search needs; deadlines = search needs }
 
 abbrev begun : tie.After-wide → tie.After-setup-sound
 begun c = c .before .before .before .before .before
@@ -49,7 +50,7 @@ setup-is c =
     sym (i .before .setup-sound .ensures) ∙ not-false _ (i .if1 .left)
 
 homes-of : (c : tie.After-wide) → Homes (given c .setup .homes)
-homes-of c = record { rows = lengths (begun c) .homes; low = fine (given c) (setup-is c) .homes }
+homes-of c = record { rows = search needs; low = fine (given c) (setup-is c) .homes }
 
 clients-below-requires : tie.Need-clients-below-requires
 clients-below-requires c κs =
@@ -94,11 +95,13 @@ lines-of c = c .before .before .before .before .before .before .before
 abbrev sets-of : tie.After-queue-seen → tie.After-clients-below
 sets-of c = lines-of c .before .before .before .before .before
 
+abbrev seen-of : tie.After-queue-seen → ℕ
+seen-of c = c .before .before .before .before .before .seen .given .0 .0
+
 lines-told : (c : tie.After-queue-seen)
     → let k = sets-of c in
     let g = given (k .before) in
-    some (c .before .before .before .before .before .seen .given .0 .0)
-    ≡ linesSeen (g .setup .sizes) (k .clients-below .result .own) (g .lines)
+    some (seen-of c) ≡ linesSeen (g .setup .sizes) (k .clients-below .result .own) (g .lines)
 lines-told c =
     sym (ap seenOf (c .before .before .before .before .before .seen .given .1)) ∙ lines-of c .lines-seen .ensures
 
@@ -124,12 +127,18 @@ rooms-of c = c .before .before .before .before .before .before .before .before .
 abbrev global-of : tie.Else4 → tie.Else3
 global-of c = c .before .before .before .before
 
+-- the charges and the deadlines
+abbrev accounts : tie.After-queue-seen → Bool
+accounts c =
+    let k = sets-of c in accountsFit (given (k .before)) (k .clients-below .result .real) (seen-of c)
+
 by-sets : (c : tie.After-stand) {fronts queue : ℕ}
     → let k = sets-of (c .before .before) in
     let g = given (k .before) in
     fronts ≡ firstsOf (g .lines) maxClusters
     → queue ≡ queuedOf (g .setup .homes) (k .clients-below .result .own) (serverOf (g .server)) fronts
-    → soundOf g ≡ restFits g (k .clients-below .result) fronts queue (c .stand .given .0 .0)
+    → soundOf g
+    ≡ restFits g (k .clients-below .result) fronts queue (seen-of (c .before .before)) (c .stand .given .0 .0)
 by-sets c =
     let q = c .before .before in
     let k = sets-of q in
@@ -171,8 +180,7 @@ by-global : (c : tie.Else3)
     let g = given (k .before) in
     soundOf g ≡ serverFits (k .clients-below .result) (g .setup .homes) (g .rooms) (f .firsts .result)
     (d .stand .given .0 .0) (g .units) (serverOf (g .server))
-    && (leb (g .units) (capOf (setupOf (g .setup)) (serverOf (g .server)))
-    && chargesFit (k .clients-below .result .real) (g .charges))
+    && (leb (g .units) (capOf (setupOf (g .setup)) (serverOf (g .server))) && accounts (d .before .before))
 by-global c =
     let q = c .before .before .before .before .before in
     let f = q .before .before .before in
@@ -197,10 +205,9 @@ cast-if5 c = search needs
 
 -- and behind the test of the server
 by-server : (c : tie.After-cap-of)
-    → let r = rooms-of (global-of (c .before)) in
-    let k = sets-of (stand-of r .before .before) in
-    let g = given (k .before) in
-    soundOf g ≡ leb (g .units) (c .cap-of .result) && chargesFit (k .clients-below .result .real) (g .charges)
+    → let d = stand-of (rooms-of (global-of (c .before))) in
+    let g = given (sets-of (d .before .before) .before) in
+    soundOf g ≡ leb (g .units) (c .cap-of .result) && accounts (d .before .before)
 by-server c =
     let v = c .before in
     rw (c .cap-of .ensures)
@@ -215,35 +222,27 @@ charges-sound-requires c κs =
 
 returns-8 : tie.Need-returns-8
 returns-8 c =
-    let n = c .before .before .before in
-    sym (by-server (n .before) ∙ passes refl (le-leb _ _ (n .if5 .left)) ∙ sym (c .charges-sound .ensures))
+    let n = c .before .before .before .before in
+    sym (by-server (n .before) ∙ passes refl (le-leb _ _ (n .if5 .left))
+    ∙ fails (c .before .charges-sound .ensures) (not-true _ (c .if6 .taken)) _)
+
+deadlines-sound-requires : tie.Need-deadlines-sound-requires
+deadlines-sound-requires c κs =
+    let i = c .before .before .before .before in
+    let w = wide-of (rooms-of (global-of (i .before .before .before .before .before .before))) in
+    (lengths (begun w) .deadlines, homes-of w)
+
+returns-9 : tie.Need-returns-9
+returns-9 c =
+    let i = c .before .before .before .before .before in
+    let n = i .before .before .before .before in
+    sym (by-server (n .before) ∙ passes refl (le-leb _ _ (n .if5 .left))
+    ∙ passes (i .before .charges-sound .ensures) (not-false _ (i .if6 .left)) ∙ sym (c .deadlines-sound .ensures))
 
 pub sound-spec : {M : Type 1} → statement M
 sound-spec =
     tie.close
-    (tie.spec
-    setup-sound-requires
-    returns
-    wide-requires
-    clients-below-requires
-    lines-seen-requires
-    enum-known-seen
-    enum-told
-    returns-2
-    queue-seen-requires
-    enum-known-stand
-    enum-told-2
-    returns-3
-    rooms-sound-requires
-    returns-4
-    firsts-requires
-    queued-requires
-    global-sound-requires
-    returns-5
-    server-sound-requires
-    returns-6
-    cap-of-requires
-    cast-if5
-    returns-7
-    charges-sound-requires
-    returns-8)
+    (tie.spec setup-sound-requires returns wide-requires clients-below-requires lines-seen-requires enum-known-seen
+    enum-told returns-2 queue-seen-requires enum-known-stand enum-told-2 returns-3 rooms-sound-requires returns-4
+    firsts-requires queued-requires global-sound-requires returns-5 server-sound-requires returns-6 cap-of-requires
+    cast-if5 returns-7 charges-sound-requires returns-8 deadlines-sound-requires returns-9)
