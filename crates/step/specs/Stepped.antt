@@ -39,10 +39,10 @@ stepped g x = cond (soundOf g) (ruled g x) (record { number = unsound; gate = g 
 -- ON PARTS
 
 -- what the code asks of the parts, so that every index is in its range
-pub record Ranged (k n : ℕ) (homes : List ℕ) (q : Queues) : Type 0 where
+pub record Ranged (k n : ℕ) (hs : List ℕ) (q : Queues) : Type 0 where
   pub clusters : k ≤ maxClusters
   pub clients : n ≤ maxClients
-  pub homes : Homes homes
+  pub homes : Homes hs
   pub server : ServerFits (serverOf (q .service .server))
 
 -- K, N, L, W, the kind of ranks and the columns of the table that are handed over are those of the setup v

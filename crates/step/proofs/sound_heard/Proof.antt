@@ -8,7 +8,7 @@ queues-of-requires : tie.Need-queues-of-requires
 queues-of-requires c κs = search needs
 
 joined-record-requires : tie.Need-joined-record-requires
-joined-record-requires c κs = rw (c .queues-of .ensures) (record { sound = c .before .before .before .pre })
+joined-record-requires c κs = rw (c .queues-of .ensures) (c .before .before .before .before .pre)
 
 returns : tie.Need-returns
 returns c = rw (c .before .queues-of .ensures) at (c .joined-record .ensures)

@@ -1,9 +1,11 @@
 -- `step::sound_record` meets its contract.
 -- Assumes nothing.
 use mathlib.Core.Path.{refl}
+use native.Mathlib.Omega.{arith}
 use borrow.Author.Needs.{needs}
+use Rattle.rules.specs.Records.{unknown}
 use Rattle.answers.specs.declared.Answer.the-variants.{Unknown}
-use Rattle.step.proofs.Doors.{answered, holds, homes, server, unheard}
+use Rattle.answers.proofs.Answering.{refuses}
 use Rattle.step.proofs.sound_record.Statement.{statement}
 use Rattle.step.proofs.sound_record.Tie as tie
 
@@ -17,28 +19,32 @@ enum-told : tie.Need-enum-told
 enum-told c = search needs
 
 reply-ready-requires : tie.Need-reply-ready-requires
-reply-ready-requires c κs =
-    let a = c .before .before .pre in
-    (server (a .1), homes (a .1) (a .0))
+reply-ready-requires c κs = search needs
 
 enum-told-2 : tie.Need-enum-told-2
 enum-told-2 c = search needs
 
 returns : tie.Need-returns
-returns c = rw (c .before .before .before .h .given .1) (c .sound-step .ensures)
+returns c = λ v s g h. rw (c .before .before .before .before .h .given .1) (c .sound-step .ensures v s g h)
 
 returns-2 : tie.Need-returns-2
 returns-2 c =
-    let a = c .before .before .before .pre .1 in
-    rw (c .before .enum-told .given .1)
-    (answered a (c .reply-ready .result) _ _ (c .reply-ready .ensures _ _ _ (refl, refl, refl) (holds a)))
+    λ v s g h.
+    rw (c .before .before .enum-told .given .1) (c .reply-ready .ensures _ v s (g .homes, g .sizes, g .timed) h)
 
 returns-3 : tie.Need-returns-3
 returns-3 c =
-    rw (c .enum-told2 .given .1)
-    (unheard (c .before .before .pre .1) (record { answer = Unknown; queues = c .before .before .args .q }) refl refl)
+    λ v s g h. rw (c .enum-told2 .given .1) (refuses h unknown Unknown refl (λ z. omega arith))
 
 pub sound-record-spec : {M : Type 1} → statement M
 sound-record-spec =
     tie.close
-    (tie.spec enum-known-h sound-step-requires enum-told reply-ready-requires enum-told-2 returns returns-2 returns-3)
+    (tie.spec
+    enum-known-h
+    sound-step-requires
+    enum-told
+    reply-ready-requires
+    enum-told-2
+    returns
+    returns-2
+    returns-3)

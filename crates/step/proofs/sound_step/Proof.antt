@@ -1,8 +1,7 @@
 -- `step::sound_step` meets its contract: each kind of event by its own function's promise.
 -- Assumes nothing.
-use mathlib.Core.Path.{refl}
+use mathlib.Core.Path.{_∙_}
 use borrow.Author.Needs.{needs}
-use Rattle.step.proofs.Doors.{answered, few-clusters, fine, holds, homes, server}
 use Rattle.step.proofs.sound_step.Statement.{statement}
 use Rattle.step.proofs.sound_step.Tie as tie
 
@@ -13,36 +12,34 @@ enum-known-e : tie.Need-enum-known-e
 enum-known-e c = search needs
 
 invoke-requires : tie.Need-invoke-requires
-invoke-requires c κs =
-    let a = c .before .before .before .before .before .pre in
-    (homes (a .1) (a .0), rw (c .before .before .before .before .wide .ensures) (fine (a .1) .clients))
+invoke-requires c κs = search needs
 
 enum-known-e-2 : tie.Need-enum-known-e-2
 enum-known-e-2 c = search needs
+
+invoke-requires-2 : tie.Need-invoke-requires-2
+invoke-requires-2 c κs = search needs
+
+enum-known-e-3 : tie.Need-enum-known-e-3
+enum-known-e-3 c = search needs
 
 wide-requires-2 : tie.Need-wide-requires-2
 wide-requires-2 c κs = search needs
 
 run-requires : tie.Need-run-requires
-run-requires c κs =
-    let a = c .before .before .before .before .before .before .pre in
-    rw (c .before .wide2 .ensures) (few-clusters (a .1))
+run-requires c κs = search needs
 
 enum-told : tie.Need-enum-told
 enum-told c = search needs
 
 reply-requires : tie.Need-reply-requires
-reply-requires c κs =
-    let a = c .before .before .before .pre in
-    (server (a .1), homes (a .1) (a .0))
+reply-requires c κs = search needs
 
-enum-known-e-3 : tie.Need-enum-known-e-3
-enum-known-e-3 c = search needs
+enum-known-e-4 : tie.Need-enum-known-e-4
+enum-known-e-4 c = search needs
 
 abort-requires : tie.Need-abort-requires
-abort-requires c κs =
-    let a = c .before .before .before .before .pre in
-    (homes (a .1) (a .0), rw (c .before .before .before .wide .ensures) (fine (a .1) .clients))
+abort-requires c κs = search needs
 
 enum-told-2 : tie.Need-enum-told-2
 enum-told-2 c = search needs
@@ -52,36 +49,36 @@ ready-requires c κs = search needs
 
 returns : tie.Need-returns
 returns c =
-    let a = c .before .before .before .before .before .before .pre .1 in
-    rw (c .before .before .before .e .given .1)
-    (answered a (c .invoke .result) _ _
-    (c .invoke .ensures _ _ (refl, refl, refl, c .before .before .before .before .before .wide .ensures) (holds a)))
+    λ v s g h.
+    rw (c .before .before .before .before .e .given .1)
+    (c .invoke .ensures v s (g .kinds, g .homes, g .sizes, c .before .before .before .before .before .before .wide .ensures ∙ g .clients, g .timed) h)
 
 returns-2 : tie.Need-returns-2
 returns-2 c =
-    let a = c .before .before .before .before .before .before .before .pre .1 in
+    λ v s g h.
     rw (c .before .before .before .before .e2 .given .1)
-    (answered a (c .run .result) _ _
-    (c .run .ensures _ _ (refl, refl, c .before .before .wide2 .ensures, refl, refl) (holds a)))
+    (c .invoke2 .ensures v s (g .kinds, g .homes, g .sizes, c .before .before .before .before .before .before .wide .ensures ∙ g .clients, g .timed) h)
 
 returns-3 : tie.Need-returns-3
 returns-3 c =
-    let a = c .before .before .before .before .pre .1 in
-    rw (c .before .enum-told .given .1)
-    (answered a (c .reply .result) _ _ (c .reply .ensures _ _ _ (refl, refl, refl) (holds a)))
+    λ v s g h.
+    rw (c .before .before .before .before .before .e3 .given .1)
+    (c .run .ensures v s (g .sizes, c .before .before .wide2 .ensures ∙ g .clusters, g .cap, g .tidy) h)
 
 returns-4 : tie.Need-returns-4
 returns-4 c =
-    let a = c .before .before .before .before .before .pre .1 in
-    rw (c .before .before .e3 .given .1)
-    (answered a (c .abort .result) _ _
-    (c .abort .ensures _ _ _ (refl, refl, refl, refl, c .before .before .before .before .wide .ensures) (holds a)))
+    λ v s g h.
+    rw (c .before .before .enum-told .given .1) (c .reply .ensures _ v s (g .homes, g .sizes, g .timed) h)
 
 returns-5 : tie.Need-returns-5
 returns-5 c =
-    let a = c .before .before .before .before .pre .1 in
-    rw (c .before .enum-told2 .given .1)
-    (answered a (c .ready .result) _ _ (c .ready .ensures _ _ _ tt (holds a)))
+    λ v s g h.
+    rw (c .before .before .before .e4 .given .1)
+    (c .abort .ensures _ v s (g .kinds, g .homes, g .sizes, c .before .before .before .before .before .wide .ensures ∙ g .clients, g .timed) h)
+
+returns-6 : tie.Need-returns-6
+returns-6 c =
+    λ v s g h. rw (c .before .enum-told2 .given .1) (c .ready .ensures _ _ v s tt h)
 
 pub sound-step-spec : {M : Type 1} → statement M
 sound-step-spec =
@@ -91,11 +88,13 @@ sound-step-spec =
     enum-known-e
     invoke-requires
     enum-known-e-2
+    invoke-requires-2
+    enum-known-e-3
     wide-requires-2
     run-requires
     enum-told
     reply-requires
-    enum-known-e-3
+    enum-known-e-4
     abort-requires
     enum-told-2
     ready-requires
@@ -103,4 +102,5 @@ sound-step-spec =
     returns-2
     returns-3
     returns-4
-    returns-5)
+    returns-5
+    returns-6)

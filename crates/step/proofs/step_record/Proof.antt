@@ -14,7 +14,7 @@ step-heard-requires c κs = search needs
 
 returns : tie.Need-returns
 returns c =
-    c .step-heard .ensures ∙ ap (stepped (c .before .before .args .g)) (c .before .heard-in .ensures)
+    c .step-heard .ensures ∙ ap (stepped (c .before .before .before .args .g)) (c .before .heard-in .ensures)
 
 pub step-record-spec : {M : Type 1} → statement M
 step-record-spec = tie.close (tie.spec heard-in-requires step-heard-requires returns)
