@@ -10,8 +10,8 @@ use Rattle.rules.specs.Refusals.{accepted}
 use Rattle.rules.specs.Rank.{outranks}
 use Rattle.rules.specs.State.{State}
 use Rattle.rules.specs.Step.{movedBy, nextBy, stepBy, answer, next}
-use Rattle.rules.specs.Records.{Heard, known, answerOf}
-use Rattle.rules.proofs.Theorems.{refused-same}
+use Rattle.rules.specs.Records.{Heard, known, answerOf, stepOf}
+use Rattle.rules.proofs.Theorems.{refused-same, sound-stays}
 use Rattle.gate.specs.Shown.{setupOf, table}
 use Rattle.parts.specs.Shows.{Fine, ShowsKeys, ShowsQueues}
 use Rattle.parts.specs.declared.Queues.{Queues}
@@ -20,6 +20,7 @@ use Rattle.parts.proofs.Parts.{shows-deadline}
 use Rattle.parts.proofs.SoundShows.{accepted-fine}
 use Rattle.answers.specs.Answers.{Answers, Holds, numberOf}
 use Rattle.answers.specs.declared.Answer.{Answer}
+use Rattle.answers.specs.declared.Outcome.{Outcome}
 use Rattle.answers.specs.declared.Answer.the-variants as is
 
 module _ {v : Setup} {s : State} {q : Queues} {cs ks : List ℕ} (h : Holds v s q cs ks) where
@@ -36,6 +37,16 @@ module _ {v : Setup} {s : State} {q : Queues} {cs ks : List ℕ} (h : Holds v s 
         charges = rw same (h .charges);
         keys = rw same (h .keys);
       }
+
+-- parts after an answer hold the state after
+pub answered-holds : {v : Setup} {s : State} {q : Queues} {cs ks : List ℕ} {x : Heard} {r : Outcome} {cs′ ks′ : List ℕ}
+    → Holds v s q cs ks → Answers v s x r cs′ ks′ → Holds v (stepOf (setupOf v) s x) (r .queues) cs′ ks′
+answered-holds {v} {s} {x = x} h a = record {
+  queues = a .queues;
+  charges = a .charges;
+  keys = a .keys;
+  sound = sound-stays (setupOf v) s x (h .sound);
+}
 
 -- an accepted event, whose deadlines the queues don't show
 pub accepts : {v : Setup} {s : State} (e : Event) {r : Queues} {cs ks : List ℕ} → answer (setupOf v) s e ≡ accepted
