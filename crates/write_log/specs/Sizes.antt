@@ -18,9 +18,9 @@ roomDigits = 5
 abbrev pub inputBytes : ℕ
 inputBytes = roomDigits + 1 + maxLog + 1
 
--- no more records begin in an input
+-- no more records begin in an input: those of version 1 are as short as any
 abbrev pub mostRecords : ℕ
-mostRecords = inputBytes / recordSize + 1
+mostRecords = inputBytes / recordSize 1 + 1
 
 -- THE TEXT
 

@@ -9,7 +9,7 @@ use input::INPUT;
 use input::MAX_ROOM;
 use input::read_input;
 use input::room_in;
-use layout::RECORD;
+use layout::record_size;
 use lines::TEXT;
 use lines::put_buffer;
 use lines::put_entry;
@@ -126,7 +126,7 @@ fn put_written(
         used: w.used,
         end: end,
     };
-    let last = write_records(log, version, first, buffer, out);
+    let last = write_records(log, version, setup.timed, first, buffer, out);
     put_last(log, last, buffer, out)
 }
 
@@ -134,6 +134,7 @@ fn put_written(
 fn write_records(
     log: &[u8],
     version: u16,
+    timed: bool,
     first: Standing,
     buffer: &mut [u8],
     out: &mut [u8; TEXT],
@@ -143,31 +144,35 @@ fn write_records(
 {
     let mut s = first;
     while s.next < log.len() {
-        let Next::Recorded(code, argument, _) = record_at(log, version, s.next) else {
+        let Next::Recorded(code, argument, deadline, _) = record_at(log, version, timed, s.next)
+        else {
             break;
         };
-        s = write_next(version, code, argument, s, buffer, out);
+        s = write_next(version, timed, code, argument, deadline, s, buffer, out);
     }
     s
 }
 
-// Writes the next record, by its code and its argument since it may be no event, and puts its line.
+// Writes the next record, by its numbers since it may be no event, and puts its line.
 fn write_next(
     version: u16,
+    timed: bool,
     code: u8,
     argument: u16,
+    deadline: u32,
     s: Standing,
     buffer: &mut [u8],
     out: &mut [u8; TEXT],
 ) -> Standing
     requires { ⌜ (s .index ≤ s .next) × (s .next ≤ inputBytes) × (s .end + lineBytes ≤ textBytes) ⌝ }
-    ensures { λ r. ⌜ (r .index ≡ s .index + 1) × (r .next ≡ s .next + recordSize) × (r .end ≤ s .end + lineBytes) ⌝ }
+    ensures { λ r.
+        ⌜ (r .index ≡ s .index + 1) × (s .next + recordSize 1 ≤ r .next) × (r .end ≤ s .end + lineBytes) ⌝ }
 {
-    let w = writing::write_record(buffer, s.used, version, code, argument);
+    let w = writing::write_record(buffer, s.used, version, timed, code, argument, deadline);
     let answer = w.answer;
     Standing {
         index: s.index + 1,
-        next: s.next + RECORD,
+        next: s.next + record_size(version),
         used: w.used,
         end: put_entry(out, s.end, s.index, writing::number(answer)),
     }

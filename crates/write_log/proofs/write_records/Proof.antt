@@ -10,12 +10,12 @@ use Rattle.write_log.proofs.write_records.Statement.{statement}
 use Rattle.write_log.proofs.write_records.Tie as tie
 
 abbrev Inv-loop : tie.InvT-loop
-Inv-loop log version buffer₀ out₀ s₀ buffer out s =
-    (length buffer ≡ length buffer₀) × (recordSize * s .index ≤ s .next)
-    × (recordSize * s .index ≤ length log + recordSize) × (s .end ≤ lineBytes * (1 + s .index))
+Inv-loop log version timed buffer₀ out₀ s₀ buffer out s =
+    (length buffer ≡ length buffer₀) × (recordSize 1 * s .index ≤ s .next)
+    × (recordSize 1 * s .index ≤ length log + recordSize 1) × (s .end ≤ lineBytes * (1 + s .index))
 
 abbrev μ-loop : tie.MeasureT-loop
-μ-loop log version buffer₀ out₀ s₀ buffer out s = length log - s .next
+μ-loop log version timed buffer₀ out₀ s₀ buffer out s = length log - s .next
 
 loop-holds : tie.Need-loop-holds Inv-loop μ-loop
 loop-holds c = search needs
