@@ -76,6 +76,12 @@ module _ (k : Checker) (r : Record) (s : Seen) where
   unfolding checked
   checked-on e = rw e
 
+  pub checked-version : checked k r s .version ≡ k .version
+  checked-version =
+      by-test (isAgreeing (k .verdict))
+      (λ y. ap (λ (j : Checker). j .version) (checked-on y))
+      (λ n. ap (λ (j : Checker). j .version) (checked-told n))
+
   -- a record that was stepped and compared
   pub checked-by : (a : Answered) (x : Heard) (n : ℕ) (j : Checker) → isAgreeing (k .verdict) ≡ true
       → x ≡ heardBy k r → toldIn a ≡ stepped (k .gate) x → n ≡ numberOf (a .answer)
