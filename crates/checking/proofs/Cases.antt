@@ -2,9 +2,11 @@
 -- Assumes nothing.
 use Prim.Native.Nat.{ℕ}
 use mathlib.Core.Path.{_≡_, refl}
+use mathlib.Core.Bool.{Bool, true, false}
 use mathlib.Core.List.{List, [], _∷_}
 use mathlib.Core.Option.{Option, some, none}
-use Rattle.rules.specs.Records.{Record}
+use Rattle.rules.specs.Events.{invoke, reply}
+use Rattle.rules.specs.Records.{Record, eventOf, Heard, known, replyReady, unknown}
 use Rattle.rules.specs.Traces.{Seen, theAnswer, theServed, theCharges, refused, agrees, differs}
 use Rattle.gate.specs.declared.Server.{Server}
 use Rattle.gate.specs.declared.Server.the-variants.{Idle, Front, Best, Spent, Tidying}
@@ -15,18 +17,19 @@ use Rattle.checking.specs.declared.Part.the-variants as part
 use Rattle.checking.specs.declared.Verdict.{Verdict}
 use Rattle.checking.specs.declared.Verdict.the-variants.{Refused, Agrees, Differs}
 use Rattle.checking.specs.declared.Checker.{Checker}
-use Rattle.checking.specs.Checking.{servedIn, verdictIn, firstVerdict, nextCount, enteredBy, checked}
+use Rattle.checking.specs.Checking.{servedIn, verdictIn, firstVerdict, nextCount, enteredBy, heardBy, checked}
 
 -- 22 before the setup's own
 pub first-verdicts :
     (firstVerdict 1 0 ≡ Agrees)
     × (firstVerdict 2 0 ≡ Agrees)
+    × (firstVerdict 3 0 ≡ Agrees)
     × (firstVerdict 0 0 ≡ Refused 22)
-    × (firstVerdict 3 0 ≡ Refused 22)
-    × (firstVerdict 3 1 ≡ Refused 22)
+    × (firstVerdict 4 0 ≡ Refused 22)
+    × (firstVerdict 4 1 ≡ Refused 22)
     × (firstVerdict 1 1 ≡ Refused 1)
     × (firstVerdict 2 5 ≡ Refused 5)
-first-verdicts = (refl, refl, refl, refl, refl, refl, refl)
+first-verdicts = (refl, refl, refl, refl, refl, refl, refl, refl)
 
 pub counts :
     (nextCount 0 ≡ 1)
@@ -46,14 +49,15 @@ words = (refl, refl, refl, refl, refl, refl, refl)
 
 -- ONE ENTRY
 
--- a gate of n clients with somebody in service, and charges 5, 6, 7
-abbrev gate : ℕ → Server → Gate
-gate n x = record {
+-- a gate of n clients that go by deadlines or not, with somebody in service, and charges 5, 6, 7
+abbrev ranked : Bool → ℕ → Server → Gate
+ranked timed n x = record {
   setup = record {
     clusters = 1;
     clients = n;
     cap = 10;
     tidy = 0;
+    timed = timed;
     sizes = table 8 (λ (k : ℕ). 1);
     kinds = table 64 (λ (c : ℕ). 0);
     homes = table 64 (λ (c : ℕ). 0);
@@ -66,7 +70,11 @@ gate n x = record {
   server = x;
   units = 0;
   charges = 5 ∷ 6 ∷ 7 ∷ [];
+  deadlines = [];
 }
+
+abbrev gate : ℕ → Server → Gate
+gate = ranked false
 
 -- a checker that has seen i entries
 abbrev seen : ℕ → Verdict → Checker
@@ -93,6 +101,24 @@ pub entries :
     × (after (Front (client 1)) (says 1 none []) ≡ Differs 3 part.Answer)
 unfolding table
 entries = (refl, refl, refl, refl, refl, refl, refl, refl, refl, refl)
+
+-- What a record says, by the checker's version and the setup of its gate: an invoke's deadline under deadlines alone.
+abbrev heard : ℕ → Bool → ℕ → ℕ → ℕ → Heard
+heard v timed c a d =
+    heardBy (record { version = v; gate = ranked timed 2 Idle; entries = 3; verdict = Agrees })
+    (record { code = c; argument = a; deadline = d })
+
+pub heards :
+    (heard 3 true 1 4 7 ≡ known (invoke 4 (some 7)))
+    × (heard 3 true 1 4 0 ≡ known (invoke 4 (some 0)))
+    × (heard 3 false 1 4 0 ≡ known (invoke 4 none))
+    × (heard 3 false 1 4 7 ≡ unknown)
+    × (heard 3 true 2 4 7 ≡ unknown)
+    × (heard 3 true 3 0 0 ≡ known reply)
+    × (heard 1 false 3 0 0 ≡ replyReady)
+    × (heard 1 false 1 4 7 ≡ unknown)
+unfolding eventOf
+heards = (refl, refl, refl, refl, refl, refl, refl, refl)
 
 -- our gate goes on by its own step, and the entry is counted, whether it differs or not
 pub goes-on :

@@ -86,7 +86,7 @@ module _ (v : ℕ) (w : Setup) where
 
   module _ (t : State) (h : Sound u t) (i : ℕ) (e : Traced) where
     abbrev x : Heard
-    x = heardOf v (e .event)
+    x = heardOf v (w .timed) (e .event)
 
     abbrev o : Option rules.Part
     o = difference (e .seen) (seenAfter u t x)
@@ -94,6 +94,7 @@ module _ (v : ℕ) (w : Setup) where
     -- what the next entry makes of it
     entry-on : i < maxCount
         → checked (agreeing v (shown w t) i) (e .event) (e .seen) ≡ after v (shown w (stepOf u t x)) i o
+    unfolding shown
     entry-on b =
         let few = allowed u (h .setup) .few-clients in
         let next : nextCount i ≡ suc i = rw (lt-ltb i maxCount b) (add-one i) in
@@ -104,19 +105,19 @@ module _ (v : ℕ) (w : Setup) where
 
   fed-from : (t : State) → Sound u t → (i : ℕ) (es : List Traced) → i + length es ≤ maxCount
       → verdictIn (fed (agreeing v (shown w t) i) es .verdict)
-      ≡ compared i (map (λ (e : Traced). e .seen) es) (seenFrom u t (heards v es))
+      ≡ compared i (map (λ (e : Traced). e .seen) es) (seenFrom u t (heards v (w .timed) es))
   unfolding compared seenFrom
   fed-from t h i [] b = refl
   fed-from t h i (e ∷ es) b =
-      let d = difference (e .seen) (seenAfter u t (heardOf v (e .event))) in
-      let t′ = stepOf u t (heardOf v (e .event)) in
-      let others = compared (suc i) (map (λ (f : Traced). f .seen) es) (seenFrom u t′ (heards v es)) in
+      let d = difference (e .seen) (seenAfter u t (heardOf v (w .timed) (e .event))) in
+      let t′ = stepOf u t (heardOf v (w .timed) (e .event)) in
+      let others = compared (suc i) (map (λ (f : Traced). f .seen) es) (seenFrom u t′ (heards v (w .timed) es)) in
       ap (λ (k : Checker). verdictIn (fed k es .verdict)) (entry-on t h i e (omega arith))
       ∙ by-test (isAgreeing (verdictAt i d))
       (λ y. let a = agreed-by i d y in
       ap (λ (z : Verdict). verdictIn (fed (record { version = v; gate = shown w t′; entries = suc i; verdict = z }) es
       .verdict)) (a .0)
-      ∙ fed-from t′ (sound-stays u t (heardOf v (e .event)) h) (suc i) es (omega arith)
+      ∙ fed-from t′ (sound-stays u t (heardOf v (w .timed) (e .event)) h) (suc i) es (omega arith)
       ∙ sym (a .1 others))
       (λ n. ap (λ (k : Checker). verdictIn (k .verdict)) (fed-told (after v (shown w t′) i d) es n)
       ∙ told-by i d n others)
@@ -171,7 +172,8 @@ fed-verdict v s low few es fits =
     = record { no-refusal = eqb-true m accepted z; sixteen-bits = low; tidy-bits = few } in
     ap (λ (k : Checker). verdictIn (fed k es .verdict)) (begun-accepted v s es y z)
     ∙ fed-from v (trimmedIn s) fresh (fresh-sound s a) 0 es (omega arith)
-    ∙ ap (λ (r : rules-setup.Setup). compared 0 (reported v r es) (seenFrom r fresh (heards v es))) (trimmed-reads s)
+    ∙ ap (λ (r : rules-setup.Setup). compared 0 (reported v r es) (seenFrom r fresh (heards v (r .timed) es)))
+    (trimmed-reads s)
     ∙ sym (trace-compared v s es y z))
     (λ z. stays-told (begun v s) es (begun-refused v s es y z) refl ∙ sym (trace-refused v s es y z)))
     (λ y. stays-told (begun v s) es (begun-unknown v s es y) refl ∙ sym (trace-unknown v s es y))

@@ -11,7 +11,7 @@ use Rattle.rules.specs.Limits.{maxCap, maxTidy}
 use Rattle.rules.specs.Refusals.{accepted, badVersion}
 use Rattle.rules.specs.Setup.{setupAnswer, Accepted}
 use Rattle.rules.specs.State.{fresh}
-use Rattle.rules.specs.Records.{Record, Heard, isVersion, heardOf}
+use Rattle.rules.specs.Records.{Record, Heard, isVersion}
 use Rattle.rules.specs.Replay.{inService}
 use Rattle.rules.specs.Traces.{Seen, Traced, difference}
 use Rattle.rules.proofs.Tests.{by-test, clash}
@@ -31,7 +31,7 @@ use Rattle.checking.specs.declared.Verdict.{Verdict}
 use Rattle.checking.specs.declared.Verdict.the-variants.{Refused, Agrees}
 use Rattle.checking.specs.declared.Checker.{Checker}
 use Rattle.checking.specs.Checking.{isAgreeing, firstVerdict, begun, nextCount, verdictAt, enteredBy}
-use Rattle.checking.specs.Checking.{checked, fed, Going}
+use Rattle.checking.specs.Checking.{heardBy, checked, fed, Going}
 
 -- THE START
 
@@ -72,13 +72,19 @@ module _ (k : Checker) (r : Record) (s : Seen) where
   checked-told e = rw e
 
   pub checked-on : isAgreeing (k .verdict) ≡ true
-      → checked k r s ≡ enteredBy k (stepped (k .gate) (heardOf (k .version) r)) s
+      → checked k r s ≡ enteredBy k (stepped (k .gate) (heardBy k r)) s
   unfolding checked
   checked-on e = rw e
 
+  pub checked-version : checked k r s .version ≡ k .version
+  checked-version =
+      by-test (isAgreeing (k .verdict))
+      (λ y. ap (λ (j : Checker). j .version) (checked-on y))
+      (λ n. ap (λ (j : Checker). j .version) (checked-told n))
+
   -- a record that was stepped and compared
   pub checked-by : (a : Answered) (x : Heard) (n : ℕ) (j : Checker) → isAgreeing (k .verdict) ≡ true
-      → x ≡ heardOf (k .version) r → toldIn a ≡ stepped (k .gate) x → n ≡ numberOf (a .answer)
+      → x ≡ heardBy k r → toldIn a ≡ stepped (k .gate) x → n ≡ numberOf (a .answer)
       → j ≡ enteredBy k (record { number = n; gate = a .gate }) s → j ≡ checked k r s
   checked-by a x n j e heard told number is =
       is
@@ -89,7 +95,7 @@ module _ (k : Checker) (r : Record) (s : Seen) where
   pub checked-going : Going k → Going (checked k r s)
   checked-going going =
       by-test (isAgreeing (k .verdict))
-      (λ y. rw (checked-on y) (λ e. stays-sound (k .gate) (heardOf (k .version) r) (going y)))
+      (λ y. rw (checked-on y) (λ e. stays-sound (k .gate) (heardBy k r) (going y)))
       (λ n. rw (checked-told n) going)
 
 -- and so over all that follow

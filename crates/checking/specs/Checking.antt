@@ -9,7 +9,7 @@ use lib.Dec.{eqb, ltb}
 use lib.ListN.{take}
 use Rattle.rules.specs.Refusals.{accepted, badVersion}
 use Rattle.rules.specs.Setup.{setupAnswer}
-use Rattle.rules.specs.Records.{Record, isVersion, heardOf}
+use Rattle.rules.specs.Records.{Record, Heard, isVersion, heardOf}
 use Rattle.rules.specs.Replay.{inService}
 use Rattle.rules.specs.Traces as rules
 use Rattle.rules.specs.Traces.{Seen, Traced, theAnswer, theServed, theCharges, refused, agrees, differs, difference}
@@ -100,10 +100,13 @@ enteredBy k t s = record {
   verdict = verdictAt (k .entries) (difference s (shownBy t));
 }
 
+-- what a record says, by the trace's version and whether its setup goes by deadlines
+abbrev pub heardBy : Checker → Record → Heard
+heardBy k r = heardOf (k .version) (k .gate .setup .timed) r
+
 -- Later entries don't change a difference, and none changes a refusal.
 unfoldable pub checked : Checker → Record → Seen → Checker
-checked k r s =
-    cond (isAgreeing (k .verdict)) (enteredBy k (stepped (k .gate) (heardOf (k .version) r)) s) k
+checked k r s = cond (isAgreeing (k .verdict)) (enteredBy k (stepped (k .gate) (heardBy k r)) s) k
 
 -- all entries of a trace, one by one
 abbrev pub fed : Checker → List Traced → Checker

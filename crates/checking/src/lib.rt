@@ -176,11 +176,12 @@ pub fn check(
     k: Checker,
     code: u8,
     argument: u16,
+    deadline: u32,
     answer: u16,
     says: Served,
     charges: &[u32],
 ) -> Checker
-    ensures { λ r. ⌜ r ≡ checked k (record { code = code; argument = argument })
+    ensures { λ r. ⌜ r ≡ checked k (record { code = code; argument = argument; deadline = deadline })
         (seenIn answer says (now (charges .entry))) ⌝ }
 {
     let v = k.verdict;
@@ -188,7 +189,11 @@ pub fn check(
         return k;
     }
     let g = k.gate;
-    let a = step_heard(g, heard_in(k.version, code, argument));
+    let setup = g.setup;
+    let a = step_heard(
+        g,
+        heard_in(k.version, setup.timed, code, argument, deadline),
+    );
     let ours = a.answer;
     let next = a.gate;
     entered(next, number(ours), k, answer, says, charges)
@@ -199,12 +204,13 @@ pub fn check_sound(
     k: Checker,
     code: u8,
     argument: u16,
+    deadline: u32,
     answer: u16,
     says: Served,
     charges: &[u32],
 ) -> Checker
     requires { ⌜ Going k ⌝ }
-    ensures { λ r. ⌜ r ≡ checked k (record { code = code; argument = argument })
+    ensures { λ r. ⌜ r ≡ checked k (record { code = code; argument = argument; deadline = deadline })
         (seenIn answer says (now (charges .entry))) ⌝ }
     ensures { λ r. ⌜ Going r ⌝ }
 {
@@ -213,7 +219,11 @@ pub fn check_sound(
         return k;
     }
     let g = k.gate;
-    let a = sound_heard(g, heard_in(k.version, code, argument));
+    let setup = g.setup;
+    let a = sound_heard(
+        g,
+        heard_in(k.version, setup.timed, code, argument, deadline),
+    );
     let ours = a.answer;
     let next = a.gate;
     entered(next, number(ours), k, answer, says, charges)

@@ -55,7 +55,7 @@ module _ (s : Setup) (g : Gate) where
   -- the lines and the entries that were read
   abbrev after : Stage → ℕ → ℕ → Verdict → Trace
   after st lines entries v =
-      trace st lines 0 s (record { version = 1; gate = g; entries = entries; verdict = v })
+      trace st lines 0 0 s (record { version = 1; gate = g; entries = entries; verdict = v })
 
   abbrev Closes : Trace → List ℕ → Judgement → Type 0
   Closes t rest j = closed t rest ≡ j

@@ -33,32 +33,60 @@ pub heads :
     × (headFits (2 ∷ 1 ∷ 1 ∷ 1 ∷ 65535 ∷ []) ≡ true)
     × (headFits (2 ∷ 1 ∷ 1 ∷ 1 ∷ 65536 ∷ []) ≡ false)
     × (headFits (0 ∷ 1 ∷ 1 ∷ 1 ∷ []) ≡ false)
-    × (headFits (3 ∷ 1 ∷ 1 ∷ 1 ∷ 1 ∷ []) ≡ false)
     × (headFits (1 ∷ 256 ∷ 1 ∷ 1 ∷ []) ≡ false)
     × (headFits (1 ∷ 1 ∷ 256 ∷ 1 ∷ []) ≡ false)
     × (headFits (1 ∷ 1 ∷ 1 ∷ 65536 ∷ []) ≡ false)
     × (headFits (1 ∷ 1 ∷ 1 ∷ []) ≡ false)
     × (headFits [] ≡ false)
 unfolding headFits fitIn
-heads = (refl, refl, refl, refl, refl, refl, refl, refl, refl, refl, refl, refl, refl, refl)
+heads = (refl, refl, refl, refl, refl, refl, refl, refl, refl, refl, refl, refl, refl)
+
+-- in version 3 with R, of 8 bits, behind W
+pub ranked-heads :
+    (headFits (3 ∷ 8 ∷ 64 ∷ 65535 ∷ 65535 ∷ 255 ∷ []) ≡ true)
+    × (headFits (3 ∷ 1 ∷ 1 ∷ 1 ∷ 1 ∷ 256 ∷ []) ≡ false)
+    × (headFits (3 ∷ 1 ∷ 1 ∷ 1 ∷ 65536 ∷ 1 ∷ []) ≡ false)
+    × (headFits (3 ∷ 1 ∷ 1 ∷ 1 ∷ 1 ∷ []) ≡ false)
+    × (headFits (3 ∷ 1 ∷ 1 ∷ 1 ∷ 1 ∷ 1 ∷ 0 ∷ []) ≡ false)
+    × (headFits (2 ∷ 1 ∷ 1 ∷ 1 ∷ 1 ∷ 1 ∷ []) ≡ false)
+    × (headFits (4 ∷ 1 ∷ 1 ∷ 1 ∷ 1 ∷ 1 ∷ []) ≡ false)
+unfolding headFits fitIn
+ranked-heads = (refl, refl, refl, refl, refl, refl, refl)
 
 -- CODE ARGUMENT ANSWER SERVED, and charges
 pub entries :
-    (entryFits (1 ∷ 3 ∷ 0 ∷ 3 ∷ []) ≡ true)
-    × (entryFits (255 ∷ 65535 ∷ 65535 ∷ 65535 ∷ 4294967295 ∷ 0 ∷ []) ≡ true)
-    × (entryFits (3 ∷ 0 ∷ 0 ∷ dash ∷ 7 ∷ []) ≡ true)
-    × (entryFits (3 ∷ 0 ∷ 0 ∷ []) ≡ false)
-    × (entryFits (256 ∷ 0 ∷ 0 ∷ 0 ∷ []) ≡ false)
-    × (entryFits (0 ∷ 65536 ∷ 0 ∷ 0 ∷ []) ≡ false)
-    × (entryFits (0 ∷ 0 ∷ 65536 ∷ 0 ∷ []) ≡ false)
-    × (entryFits (0 ∷ 0 ∷ 0 ∷ 65536 ∷ []) ≡ false)
-    × (entryFits (0 ∷ 0 ∷ dash ∷ 0 ∷ []) ≡ false)
-    × (entryFits (0 ∷ 0 ∷ 0 ∷ 0 ∷ dash ∷ []) ≡ false)
-    × (entryFits (0 ∷ 0 ∷ 0 ∷ 0 ∷ 1 ∷ 4294967296 ∷ []) ≡ false)
-    × (seenOf (1 ∷ 2 ∷ 3 ∷ 4 ∷ 5 ∷ 6 ∷ []) ≡ record { answer = 3; served = some 4; charges = 5 ∷ 6 ∷ [] })
-    × (seenOf (1 ∷ 2 ∷ 3 ∷ dash ∷ []) ≡ record { answer = 3; served = none; charges = [] })
+    (entryFits 2 (1 ∷ 3 ∷ 0 ∷ 3 ∷ []) ≡ true)
+    × (entryFits 2 (255 ∷ 65535 ∷ 65535 ∷ 65535 ∷ 4294967295 ∷ 0 ∷ []) ≡ true)
+    × (entryFits 2 (3 ∷ 0 ∷ 0 ∷ dash ∷ 7 ∷ []) ≡ true)
+    × (entryFits 2 (3 ∷ 0 ∷ 0 ∷ []) ≡ false)
+    × (entryFits 2 (256 ∷ 0 ∷ 0 ∷ 0 ∷ []) ≡ false)
+    × (entryFits 2 (0 ∷ 65536 ∷ 0 ∷ 0 ∷ []) ≡ false)
+    × (entryFits 2 (0 ∷ 0 ∷ 65536 ∷ 0 ∷ []) ≡ false)
+    × (entryFits 2 (0 ∷ 0 ∷ 0 ∷ 65536 ∷ []) ≡ false)
+    × (entryFits 2 (0 ∷ 0 ∷ dash ∷ 0 ∷ []) ≡ false)
+    × (entryFits 2 (0 ∷ 0 ∷ 0 ∷ 0 ∷ dash ∷ []) ≡ false)
+    × (entryFits 2 (0 ∷ 0 ∷ 0 ∷ 0 ∷ 1 ∷ 4294967296 ∷ []) ≡ false)
+    × (seenOf 2 (1 ∷ 2 ∷ 3 ∷ 4 ∷ 5 ∷ 6 ∷ []) ≡ record { answer = 3; served = some 4; charges = 5 ∷ 6 ∷ [] })
+    × (seenOf 2 (1 ∷ 2 ∷ 3 ∷ dash ∷ []) ≡ record { answer = 3; served = none; charges = [] })
 unfolding fitIn allFit
 entries = (refl, refl, refl, refl, refl, refl, refl, refl, refl, refl, refl, refl, refl)
+
+-- In version 3 with DEADLINE, of 32 bits, behind ARGUMENT.
+pub timed-entries :
+    (entryFits 3 (1 ∷ 3 ∷ 4294967295 ∷ 0 ∷ 3 ∷ []) ≡ true)
+    × (entryFits 3 (255 ∷ 65535 ∷ 0 ∷ 65535 ∷ 65535 ∷ 4294967295 ∷ 0 ∷ []) ≡ true)
+    × (entryFits 3 (3 ∷ 0 ∷ 0 ∷ 0 ∷ dash ∷ 7 ∷ []) ≡ true)
+    × (entryFits 3 (1 ∷ 3 ∷ 0 ∷ 3 ∷ []) ≡ false)
+    × (entryFits 3 (1 ∷ 3 ∷ 4294967296 ∷ 0 ∷ 3 ∷ []) ≡ false)
+    × (entryFits 3 (1 ∷ 65536 ∷ 0 ∷ 0 ∷ 3 ∷ []) ≡ false)
+    × (entryFits 3 (1 ∷ 3 ∷ 0 ∷ 65536 ∷ 3 ∷ []) ≡ false)
+    × (entryFits 3 (1 ∷ 3 ∷ 0 ∷ 0 ∷ 65536 ∷ []) ≡ false)
+    × (entryFits 3 (1 ∷ 3 ∷ 0 ∷ dash ∷ 0 ∷ []) ≡ false)
+    × (entryFits 1 (1 ∷ 3 ∷ 65536 ∷ 0 ∷ 3 ∷ []) ≡ false)
+    × (eventIn 3 (1 ∷ 2 ∷ 3 ∷ 4 ∷ 5 ∷ 6 ∷ []) ≡ record { code = 1; argument = 2; deadline = 3 })
+    × (seenOf 3 (1 ∷ 2 ∷ 3 ∷ 4 ∷ 5 ∷ 6 ∷ []) ≡ record { answer = 4; served = some 5; charges = 6 ∷ [] })
+unfolding fitIn allFit
+timed-entries = (refl, refl, refl, refl, refl, refl, refl, refl, refl, refl, refl, refl)
 
 -- KIND CLUSTER PRIORITY
 pub rows :
@@ -73,37 +101,48 @@ rows = (refl, refl, refl, refl, refl, refl)
 
 -- WHAT THEY SAY
 
--- K, N, L and W each in its place, and no W in version 1
+-- K, N, L, W and R each in its place, and no W in version 1
 pub said-heads :
     (headSetup (2 ∷ 3 ∷ 4 ∷ 5 ∷ 6 ∷ []) .clusters ≡ 3)
     × (headSetup (2 ∷ 3 ∷ 4 ∷ 5 ∷ 6 ∷ []) .clients ≡ 4)
     × (headSetup (2 ∷ 3 ∷ 4 ∷ 5 ∷ 6 ∷ []) .cap ≡ 5)
     × (headSetup (2 ∷ 3 ∷ 4 ∷ 5 ∷ 6 ∷ []) .tidy ≡ 6)
     × (headSetup (1 ∷ 3 ∷ 4 ∷ 5 ∷ []) .tidy ≡ 0)
+    × (headSetup (2 ∷ 3 ∷ 4 ∷ 5 ∷ 1 ∷ []) .timed ≡ false)
+    × (headSetup (3 ∷ 3 ∷ 4 ∷ 5 ∷ 6 ∷ 0 ∷ []) .timed ≡ false)
+    × (headSetup (3 ∷ 3 ∷ 4 ∷ 5 ∷ 6 ∷ 1 ∷ []) .timed ≡ true)
 unfolding headSetup
-said-heads = (refl, refl, refl, refl, refl)
+said-heads = (refl, refl, refl, refl, refl, refl, refl, refl)
 
 -- a setup of two clusters without sizes and rows
 abbrev bare : Setup
 bare = headSetup (1 ∷ 2 ∷ 3 ∷ 10 ∷ [])
+
+-- one that goes by deadlines
+abbrev bareTimed : Setup
+bareTimed = headSetup (3 ∷ 2 ∷ 3 ∷ 10 ∷ 0 ∷ 1 ∷ [])
 
 -- sizes in their order, and the rest as it was
 pub said-sizes :
     (take 3 (withSizes (7 ∷ 8 ∷ []) bare .sizes) ≡ 7 ∷ 8 ∷ 0 ∷ [])
     × (withSizes (7 ∷ 8 ∷ []) bare .clients ≡ 3)
     × (withSizes (7 ∷ 8 ∷ []) bare .cap ≡ 10)
+    × (withSizes (7 ∷ 8 ∷ []) bare .timed ≡ false)
+    × (withSizes (7 ∷ 8 ∷ []) bareTimed .timed ≡ true)
 unfolding headSetup withSizes table
-said-sizes = (refl, refl, refl)
+said-sizes = (refl, refl, refl, refl, refl)
 
 -- the row of client 1: kind, cluster and priority each in its column
 pub said-rows :
     (take 3 (withRow 1 (1 ∷ 2 ∷ 300 ∷ []) bare .kinds) ≡ 0 ∷ 1 ∷ 0 ∷ [])
     × (take 3 (withRow 1 (1 ∷ 2 ∷ 300 ∷ []) bare .homes) ≡ 0 ∷ 2 ∷ 0 ∷ [])
     × (take 3 (withRow 1 (1 ∷ 2 ∷ 300 ∷ []) bare .priorities) ≡ 0 ∷ 300 ∷ 0 ∷ [])
+    × (withRow 1 (1 ∷ 2 ∷ 300 ∷ []) bare .timed ≡ false)
+    × (withRow 1 (1 ∷ 2 ∷ 300 ∷ []) bareTimed .timed ≡ true)
 unfolding headSetup withRow
-said-rows = (refl, refl, refl)
+said-rows = (refl, refl, refl, refl, refl)
 
-pub said-event : eventIn (4 ∷ 9 ∷ 0 ∷ 1 ∷ []) ≡ record { code = 4; argument = 9 }
+pub said-event : eventIn 2 (4 ∷ 9 ∷ 7 ∷ 1 ∷ []) ≡ record { code = 4; argument = 9; deadline = 0 }
 said-event = refl
 
 -- LINE BY LINE
@@ -163,20 +202,42 @@ unfolding noneRead taken headFits headSetup withSizes withRow valuesOf fitIn pla
 setups =
     (refl, refl, refl, refl, refl, refl, refl, refl, refl, refl, refl, refl, refl, refl, refl)
 
+-- R: 0 and 1 are known, else 33, behind the last row and before 4 and 5, but behind 1 and any malformed line
+pub ranks :
+    (show (S (3 ∷ 1 ∷ 0 ∷ 10 ∷ 7 ∷ 0 ∷ []) ∷ Z (1 ∷ []) ∷ []) ≡ shownAs Entries 2 0 Agrees)
+    × (show (S (3 ∷ 1 ∷ 0 ∷ 10 ∷ 7 ∷ 1 ∷ []) ∷ Z (1 ∷ []) ∷ []) ≡ shownAs Entries 2 0 Agrees)
+    × (show (S (3 ∷ 1 ∷ 0 ∷ 10 ∷ 7 ∷ 2 ∷ []) ∷ []) ≡ shownAs Sizes 1 0 (Refused 4))
+    × (show (S (3 ∷ 1 ∷ 0 ∷ 10 ∷ 7 ∷ 2 ∷ []) ∷ Z (1 ∷ []) ∷ []) ≡ shownAs Entries 2 0 (Refused 33))
+    × (show (S (3 ∷ 1 ∷ 0 ∷ 10 ∷ 7 ∷ 2 ∷ []) ∷ Z (9 ∷ []) ∷ []) ≡ shownAs Entries 2 0 (Refused 33))
+    × (show (S (3 ∷ 1 ∷ 0 ∷ 10 ∷ 2 ∷ 1 ∷ []) ∷ Z (9 ∷ []) ∷ []) ≡ shownAs Entries 2 0 (Refused 4))
+    × (show (S (3 ∷ 1 ∷ 1 ∷ 1 ∷ 0 ∷ 2 ∷ []) ∷ Z (1 ∷ []) ∷ C (0 ∷ 1 ∷ 0 ∷ []) ∷ []) ≡ shownAs Entries 3 1 (Refused 33))
+    × (show (S (3 ∷ 1 ∷ 1 ∷ 1 ∷ 0 ∷ 2 ∷ []) ∷ Z (1 ∷ []) ∷ C (0 ∷ 1 ∷ []) ∷ []) ≡ shownAs Malformed 3 0 (Refused 4))
+    × (show (S (3 ∷ 0 ∷ 0 ∷ 10 ∷ 7 ∷ 2 ∷ []) ∷ []) ≡ shownAs Entries 1 0 (Refused 1))
+unfolding noneRead taken headFits headSetup withSizes withRow valuesOf fitIn plainOf decimal begun setupAnswer table
+ranks = (refl, refl, refl, refl, refl, refl, refl, refl, refl)
+
 -- An entry is a line more, and leaves the stage; any other line, or one with too few numbers, is malformed there. Only
 -- stage and lines are looked at: what an entry makes of the checker, `checking` computes.
-abbrev stageAfter : List (List ℕ) → Stage
-stageAfter ls = takenAll noneRead (S (1 ∷ 1 ∷ 0 ∷ 10 ∷ []) ∷ Z (1 ∷ []) ∷ ls) .stage
+abbrev first : List (List ℕ)
+first = S (1 ∷ 1 ∷ 0 ∷ 10 ∷ []) ∷ Z (1 ∷ []) ∷ []
 
-abbrev linesAfter : List (List ℕ) → ℕ
-linesAfter ls = takenAll noneRead (S (1 ∷ 1 ∷ 0 ∷ 10 ∷ []) ∷ Z (1 ∷ []) ∷ ls) .lines
+abbrev third : List (List ℕ)
+third = S (3 ∷ 1 ∷ 0 ∷ 10 ∷ 0 ∷ 1 ∷ []) ∷ Z (1 ∷ []) ∷ []
+
+abbrev stageAfter : List (List ℕ) → List ℕ → Stage
+stageAfter setup l = takenAll noneRead (setup ++ l ∷ []) .stage
+
+abbrev linesAfter : List (List ℕ) → List ℕ → ℕ
+linesAfter setup l = takenAll noneRead (setup ++ l ∷ []) .lines
 
 pub entry-lines :
-    (stageAfter (E (3 ∷ 0 ∷ 12 ∷ 0 ∷ []) ∷ []) ≡ Entries)
-    × (linesAfter (E (3 ∷ 0 ∷ 12 ∷ 0 ∷ []) ∷ []) ≡ 3)
-    × (stageAfter ((E (3 ∷ 0 ∷ 12 ∷ []) ++ space ∷ 45 ∷ []) ∷ []) ≡ Entries)
-    × (stageAfter (E (3 ∷ 0 ∷ 12 ∷ []) ∷ []) ≡ Malformed)
-    × (stageAfter (C (3 ∷ 0 ∷ 12 ∷ 0 ∷ []) ∷ []) ≡ Malformed)
-    × (linesAfter (C (3 ∷ 0 ∷ 12 ∷ 0 ∷ []) ∷ []) ≡ 3)
+    (stageAfter first (E (3 ∷ 0 ∷ 12 ∷ 0 ∷ [])) ≡ Entries)
+    × (linesAfter first (E (3 ∷ 0 ∷ 12 ∷ 0 ∷ [])) ≡ 3)
+    × (stageAfter first (E (3 ∷ 0 ∷ 12 ∷ []) ++ space ∷ 45 ∷ []) ≡ Entries)
+    × (stageAfter first (E (3 ∷ 0 ∷ 12 ∷ [])) ≡ Malformed)
+    × (stageAfter first (C (3 ∷ 0 ∷ 12 ∷ 0 ∷ [])) ≡ Malformed)
+    × (linesAfter first (C (3 ∷ 0 ∷ 12 ∷ 0 ∷ [])) ≡ 3)
+    × (stageAfter third (E (1 ∷ 0 ∷ 65536 ∷ 10 ∷ 0 ∷ [])) ≡ Entries)
+    × (stageAfter third (E (1 ∷ 0 ∷ 10 ∷ 0 ∷ [])) ≡ Malformed)
 unfolding noneRead taken headFits headSetup withSizes valuesOf fitIn allFit plainOf decimal begun setupAnswer table
-entry-lines = (refl, refl, refl, refl, refl, refl)
+entry-lines = (refl, refl, refl, refl, refl, refl, refl, refl)

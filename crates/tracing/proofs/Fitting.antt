@@ -1,8 +1,8 @@
 -- The numbers of a line that fits are within their widths.
 -- Assumes nothing.
-use Prim.Native.Nat.{ℕ, zero, suc, _≤_, _<_}
+use Prim.Native.Nat.{ℕ, zero, suc, _+_, _≤_, _<_}
 use native.Mathlib.Omega.{arith}
-use mathlib.Core.Path.{_≡_, refl, ap}
+use mathlib.Core.Path.{_≡_, refl, sym, ap, _∙_}
 use mathlib.Core.Bool.{Bool, true, false, _&&_, _||_, cond}
 use mathlib.Core.List.{List, [], _∷_}
 use lib.Dec.{eqb, leb}
@@ -11,9 +11,10 @@ use lib.Seq.{getD-take}
 use borrow.Author.Tests.{leb-true, eqb-true, lt-leb, le-leb}
 use Rattle.rules.specs.Records.{newest, isVersion}
 use Rattle.rules.proofs.Tests.{clash, both-true, either-true}
-use Rattle.layout.specs.Layout.{carriesTidy}
-use Rattle.trace_lines.specs.Lines.{dash, bits8, bits16, fitIn}
-use Rattle.tracing.specs.Shapes.{headWidths, headFits, sizesFit, rowFits, entryBegins}
+use Rattle.layout.specs.Layout.{carriesTidy, carriesRanks}
+use Rattle.trace_lines.specs.Lines.{dash, bits8, bits16, bits32, fitIn}
+use Rattle.tracing.specs.Shapes.{headWidths, headFits, sizesFit, rowFits}
+use Rattle.tracing.specs.Shapes.{entryWidths, servedAt, chargesAt, entryBegins}
 use Rattle.tracing.specs.Shapes.{HeadNumbers, RowNumbers, EntryNumbers}
 
 fit-at : (ws vs : List ℕ) → fitIn ws vs ≡ true → (j : ℕ) → getD vs j 0 ≤ getD ws j 0
@@ -41,26 +42,31 @@ module _ (vs : List ℕ) where
       either-way true = refl
       either-way false = refl
 
-  pub head-known : isVersion version ≡ true → (b : Bool) → carriesTidy version ≡ b
-      → headFits vs ≡ fitIn (bits16 ∷ bits8 ∷ bits8 ∷ bits16 ∷ cond b (bits16 ∷ []) []) vs
+  pub head-known : isVersion version ≡ true → headFits vs ≡ fitIn (headWidths version) vs
   unfolding headFits
-  head-known e b q = rw (e, q)
+  head-known e = rw e
 
-tidy-width : (b : Bool) → getD (bits16 ∷ bits8 ∷ bits8 ∷ bits16 ∷ cond b (bits16 ∷ []) []) 4 0 ≤ bits16
-tidy-width true = omega arith
-tidy-width false = omega arith
+-- W and R, by whether the version carries ranks and W
+behind-cap : (a b : Bool)
+    → let ws = bits16 ∷ bits8 ∷ bits8 ∷ bits16 ∷ cond a (bits16 ∷ bits8 ∷ []) (cond b (bits16 ∷ []) []) in
+    (getD ws 4 0 ≤ bits16) × (getD ws 5 0 ≤ bits8)
+behind-cap true b = (omega arith, omega arith)
+behind-cap false true = (omega arith, omega arith)
+behind-cap false false = (omega arith, omega arith)
 
 pub head-numbers : (vs : List ℕ) → headFits vs ≡ true → HeadNumbers vs
 unfolding headFits
 head-numbers vs e =
     let v = getD vs 0 0 in
     let fits = fit-at (headWidths v) vs (both-true (isVersion v) (fitIn (headWidths v) vs) e .1) in
+    let behind = behind-cap (carriesRanks v) (carriesTidy v) in
     record {
       version = fits 0;
       clusters = fits 1;
       clients = fits 2;
       cap = fits 3;
-      tidy = omega (arith, fits 4, tidy-width (carriesTidy v));
+      tidy = omega (arith, fits 4, behind .0);
+      ranks = omega (arith, fits 5, behind .1);
     }
 
 -- LINE Z
@@ -87,45 +93,67 @@ row-numbers vs e =
 
 -- LINES E
 
-module _ (vs : List ℕ) where
-  pub too-few : length vs < 4 → entryBegins vs ≡ false
-  too-few h = rw (lt-leb 4 (length vs) h)
+-- by where SERVED stands
+abbrev beginsAt : ℕ → List ℕ → ℕ → Bool
+beginsAt v vs n =
+    (leb (n + 1) (length vs) && fitIn (entryWidths v) (take n vs))
+    && (leb (getD vs n 0) bits16 || eqb (getD vs n 0) dash)
 
-  module _ (h : 4 ≤ length vs) where
-    pub first-unfit : fitIn (bits8 ∷ bits16 ∷ bits16 ∷ []) (take 3 vs) ≡ false → entryBegins vs ≡ false
-    first-unfit e = rw (le-leb 4 (length vs) h, e)
+module _ (v : ℕ) (vs : List ℕ) (n : ℕ) (is : n ≡ servedAt v) where
+  at-served : entryBegins v vs ≡ beginsAt v vs n
+  at-served = ap (beginsAt v vs) (sym is)
 
-    module _ (e : fitIn (bits8 ∷ bits16 ∷ bits16 ∷ []) (take 3 vs) ≡ true) where
-      pub served-fits : getD vs 3 0 ≤ bits16 → entryBegins vs ≡ true
-      served-fits q = rw (le-leb 4 (length vs) h, e, le-leb (getD vs 3 0) bits16 q)
+  pub too-few : length vs ≤ n → entryBegins v vs ≡ false
+  too-few h = at-served ∙ rw (lt-leb (n + 1) (length vs) (omega arith))
 
-      pub served-or-dash : bits16 < getD vs 3 0 → entryBegins vs ≡ eqb (getD vs 3 0) dash
-      served-or-dash q = rw (le-leb 4 (length vs) h, e, lt-leb (getD vs 3 0) bits16 q)
+  module _ (h : n < length vs) where
+    long : leb (n + 1) (length vs) ≡ true
+    long = le-leb (n + 1) (length vs) (omega arith)
 
-module _ (vs : List ℕ) (e : entryBegins vs ≡ true) where
-  abbrev first : List ℕ
-  first = bits8 ∷ bits16 ∷ bits16 ∷ []
+    pub first-unfit : fitIn (entryWidths v) (take n vs) ≡ false → entryBegins v vs ≡ false
+    first-unfit e = at-served ∙ rw (long, e)
 
-  abbrev tests : (leb 4 (length vs) && fitIn first (take 3 vs) ≡ true)
-      × (leb (getD vs 3 0) bits16 || eqb (getD vs 3 0) dash ≡ true)
+    module _ (e : fitIn (entryWidths v) (take n vs) ≡ true) where
+      pub served-fits : getD vs n 0 ≤ bits16 → entryBegins v vs ≡ true
+      served-fits q = at-served ∙ rw (long, e, le-leb (getD vs n 0) bits16 q)
+
+      pub served-or-dash : bits16 < getD vs n 0 → entryBegins v vs ≡ eqb (getD vs n 0) dash
+      served-or-dash q = at-served ∙ rw (long, e, lt-leb (getD vs n 0) bits16 q)
+
+fit-first : (ws vs : List ℕ) (n : ℕ) → fitIn ws (take n vs) ≡ true → (j : ℕ) → j < n → getD vs j 0 ≤ getD ws j 0
+fit-first ws vs n e j h = omega (arith, fit-at ws (take n vs) e j, getD-take n vs j 0 h)
+
+-- the numbers up to ANSWER, with a deadline or without
+numbers-by : (b : Bool) (vs : List ℕ)
+    → fitIn (bits8 ∷ bits16 ∷ cond b (bits32 ∷ bits16 ∷ []) (bits16 ∷ [])) (take (cond b 3 2 + 1) vs) ≡ true
+    → (getD vs 0 0 ≤ bits8) × (getD vs 1 0 ≤ bits16) × (cond b (getD vs 2 0) 0 ≤ bits32)
+    × (getD vs (cond b 3 2) 0 ≤ bits16)
+numbers-by true vs e = let at = fit-first (bits8 ∷ bits16 ∷ bits32 ∷ bits16 ∷ []) vs 4 e in
+    (at 0 (omega arith), at 1 (omega arith), at 2 (omega arith), at 3 (omega arith))
+numbers-by false vs e = let at = fit-first (bits8 ∷ bits16 ∷ bits16 ∷ []) vs 3 e in
+    (at 0 (omega arith), at 1 (omega arith), omega arith, at 2 (omega arith))
+
+module _ (v : ℕ) (vs : List ℕ) (e : entryBegins v vs ≡ true) where
+  abbrev served : ℕ
+  served = getD vs (servedAt v) 0
+
+  abbrev tests : (leb (chargesAt v) (length vs) && fitIn (entryWidths v) (take (servedAt v) vs) ≡ true)
+      × (leb served bits16 || eqb served dash ≡ true)
   tests =
-      both-true (leb 4 (length vs) && fitIn first (take 3 vs)) (leb (getD vs 3 0) bits16 || eqb (getD vs 3 0) dash) e
+      both-true (leb (chargesAt v) (length vs) && fitIn (entryWidths v) (take (servedAt v) vs))
+      (leb served bits16 || eqb served dash) e
 
-  pub four-numbers : 4 ≤ length vs
-  four-numbers = leb-true 4 (length vs) (both-true (leb 4 (length vs)) (fitIn first (take 3 vs)) (tests .0) .0)
+  abbrev first : (leb (chargesAt v) (length vs) ≡ true) × (fitIn (entryWidths v) (take (servedAt v) vs) ≡ true)
+  first = both-true (leb (chargesAt v) (length vs)) (fitIn (entryWidths v) (take (servedAt v) vs)) (tests .0)
 
-  at : (j : ℕ) → j < 3 → getD vs j 0 ≤ getD first j 0
-  at j h =
-      omega (
-        arith,
-        fit-at first (take 3 vs) (both-true (leb 4 (length vs)) (fitIn first (take 3 vs)) (tests .0) .1) j,
-        getD-take 3 vs j 0 h,
-      )
+  pub enough-numbers : chargesAt v ≤ length vs
+  enough-numbers = leb-true (chargesAt v) (length vs) (first .0)
 
-  pub entry-numbers : EntryNumbers vs
-  entry-numbers = record { code = at 0 (omega arith); argument = at 1 (omega arith); answer = at 2 (omega arith) }
+  pub entry-numbers : EntryNumbers v vs
+  entry-numbers = let n = numbers-by (carriesRanks v) vs (first .1) in
+      record { code = n .0; argument = n .1; deadline = n .2; answer = n .3 }
 
-  pub served-cases {ℓ} : {X : Type ℓ} → (getD vs 3 0 ≤ bits16 → X) → (getD vs 3 0 ≡ dash → X) → X
+  pub served-cases {ℓ} : {X : Type ℓ} → (served ≤ bits16 → X) → (served ≡ dash → X) → X
   served-cases f g =
-      either-true (leb (getD vs 3 0) bits16) (eqb (getD vs 3 0) dash) (tests .1)
-      (λ y. f (leb-true (getD vs 3 0) bits16 y)) (λ y. g (eqb-true (getD vs 3 0) dash y))
+      either-true (leb served bits16) (eqb served dash) (tests .1)
+      (λ y. f (leb-true served bits16 y)) (λ y. g (eqb-true served dash y))

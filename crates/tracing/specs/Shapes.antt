@@ -1,6 +1,6 @@
 -- The lines of a trace by their numbers: when each kind fits, and the setup or entry that they say.
 -- Assumes nothing.
-use Prim.Native.Nat.{ℕ, _≤_}
+use Prim.Native.Nat.{ℕ, _+_, _≤_}
 use mathlib.Core.Bool.{Bool, _&&_, _||_, cond}
 use mathlib.Core.List.{List, [], _∷_}
 use mathlib.Core.Option.{Option, some, none}
@@ -11,18 +11,28 @@ use Rattle.rules.specs.Records.{Record, isVersion}
 use Rattle.rules.specs.Traces.{Seen}
 use Rattle.gate.specs.declared.Setup.{Setup}
 use Rattle.gate.specs.Shown.{table}
-use Rattle.layout.specs.Layout.{carriesTidy}
+use Rattle.layout.specs.Layout.{carriesTidy, carriesRanks, prioritiesByte, deadlinesByte}
 use Rattle.trace_lines.specs.Lines.{dash, bits8, bits16, bits32, fitIn, allFit}
 
 -- LINE S
 
--- VERSION K N L, and W where logs of that version carry it
+-- VERSION K N L, and behind them W and R where logs of that version carry them
 abbrev pub headWidths : ℕ → List ℕ
-headWidths version = bits16 ∷ bits8 ∷ bits8 ∷ bits16 ∷ cond (carriesTidy version) (bits16 ∷ []) []
+headWidths v =
+    bits16 ∷ bits8 ∷ bits8 ∷ bits16
+    ∷ cond (carriesRanks v) (bits16 ∷ bits8 ∷ []) (cond (carriesTidy v) (bits16 ∷ []) [])
 
 -- A version that isn't known makes it malformed.
 unfoldable pub headFits : List ℕ → Bool
 headFits vs = isVersion (getD vs 0 0) && fitIn (headWidths (getD vs 0 0)) vs
+
+-- R: 0 where the line has none
+abbrev pub ranksOf : List ℕ → ℕ
+ranksOf vs = getD vs 5 0
+
+-- 0 priorities, 1 deadlines; any other is `refused 33`
+abbrev pub ranksKnown : ℕ → Bool
+ranksKnown r = eqb r prioritiesByte || eqb r deadlinesByte
 
 -- the setup before its tables; W is 0 where the line has none
 unfoldable pub headSetup : List ℕ → Setup
@@ -31,6 +41,7 @@ headSetup vs = record {
   clients = getD vs 2 0;
   cap = getD vs 3 0;
   tidy = getD vs 4 0;
+  timed = eqb (ranksOf vs) deadlinesByte;
   sizes = replicate maxClusters 0;
   kinds = replicate maxClients 0;
   homes = replicate maxClients 0;
@@ -49,6 +60,7 @@ withSizes vs s = record {
   clients = s .clients;
   cap = s .cap;
   tidy = s .tidy;
+  timed = s .timed;
   sizes = table maxClusters (λ (k : ℕ). getD vs k 0);
   kinds = s .kinds;
   homes = s .homes;
@@ -68,32 +80,57 @@ withRow c vs s = record {
   clients = s .clients;
   cap = s .cap;
   tidy = s .tidy;
+  timed = s .timed;
   sizes = s .sizes;
   kinds = set (s .kinds) c (getD vs 0 0);
   homes = set (s .homes) c (getD vs 1 0);
   priorities = set (s .priorities) c (getD vs 2 0);
 }
 
--- LINES E
+-- LINES E, in a trace of version v
 
--- CODE ARGUMENT ANSWER SERVED; SERVED is `-` for nobody
-abbrev pub entryBegins : List ℕ → Bool
-entryBegins vs =
-    (leb 4 (length vs) && fitIn (bits8 ∷ bits16 ∷ bits16 ∷ []) (take 3 vs))
-    && (leb (getD vs 3 0) bits16 || eqb (getD vs 3 0) dash)
+-- CODE ARGUMENT ANSWER, with DEADLINE before ANSWER where logs of that version have it in their records
+abbrev pub entryWidths : ℕ → List ℕ
+entryWidths v = bits8 ∷ bits16 ∷ cond (carriesRanks v) (bits32 ∷ bits16 ∷ []) (bits16 ∷ [])
 
--- then CHARGE .., any count of them, none too
-abbrev pub entryFits : List ℕ → Bool
-entryFits vs = entryBegins vs && allFit bits32 (drop 4 vs)
+-- so ANSWER is behind two or three numbers,
+abbrev pub answerAt : ℕ → ℕ
+answerAt v = cond (carriesRanks v) 3 2
 
-abbrev pub eventIn : List ℕ → Record
-eventIn vs = record { code = getD vs 0 0; argument = getD vs 1 0 }
+-- then SERVED,
+abbrev pub servedAt : ℕ → ℕ
+servedAt v = answerAt v + 1
+
+-- then CHARGE ..
+abbrev pub chargesAt : ℕ → ℕ
+chargesAt v = servedAt v + 1
+
+-- SERVED is `-` for nobody
+abbrev pub entryBegins : ℕ → List ℕ → Bool
+entryBegins v vs =
+    (leb (chargesAt v) (length vs) && fitIn (entryWidths v) (take (servedAt v) vs))
+    && (leb (getD vs (servedAt v) 0) bits16 || eqb (getD vs (servedAt v) 0) dash)
+
+-- any count of charges, none too
+abbrev pub entryFits : ℕ → List ℕ → Bool
+entryFits v vs = entryBegins v vs && allFit bits32 (drop (chargesAt v) vs)
+
+-- 0 where the line has none
+abbrev pub deadlineIn : ℕ → List ℕ → ℕ
+deadlineIn v vs = cond (carriesRanks v) (getD vs 2 0) 0
+
+abbrev pub eventIn : ℕ → List ℕ → Record
+eventIn v vs = record { code = getD vs 0 0; argument = getD vs 1 0; deadline = deadlineIn v vs }
 
 abbrev pub servedOf : ℕ → Option ℕ
 servedOf n = cond (eqb n dash) none (some n)
 
-abbrev pub seenOf : List ℕ → Seen
-seenOf vs = record { answer = getD vs 2 0; served = servedOf (getD vs 3 0); charges = drop 4 vs }
+abbrev pub seenOf : ℕ → List ℕ → Seen
+seenOf v vs = record {
+  answer = getD vs (answerAt v) 0;
+  served = servedOf (getD vs (servedAt v) 0);
+  charges = drop (chargesAt v) vs;
+}
 
 -- WHAT FITS IS WITHIN ITS WIDTH
 
@@ -103,13 +140,15 @@ pub record HeadNumbers (vs : List ℕ) : Type 0 where
   pub clients : getD vs 2 0 ≤ bits8
   pub cap : getD vs 3 0 ≤ bits16
   pub tidy : getD vs 4 0 ≤ bits16
+  pub ranks : ranksOf vs ≤ bits8
 
 pub record RowNumbers (vs : List ℕ) : Type 0 where
   pub kind : getD vs 0 0 ≤ bits8
   pub cluster : getD vs 1 0 ≤ bits8
   pub priority : getD vs 2 0 ≤ bits16
 
-pub record EntryNumbers (vs : List ℕ) : Type 0 where
+pub record EntryNumbers (v : ℕ) (vs : List ℕ) : Type 0 where
   pub code : getD vs 0 0 ≤ bits8
   pub argument : getD vs 1 0 ≤ bits16
-  pub answer : getD vs 2 0 ≤ bits16
+  pub deadline : deadlineIn v vs ≤ bits32
+  pub answer : getD vs (answerAt v) 0 ≤ bits16

@@ -6,7 +6,7 @@ use mathlib.Core.Bool.{Bool, true, false, not, cond}
 use mathlib.Core.List.{List, [], _∷_}
 use lib.Dec.{eqb, ltb}
 use lib.ListN.{getD}
-use Rattle.rules.specs.Refusals.{badSize}
+use Rattle.rules.specs.Refusals.{badSize, badRanks}
 use Rattle.rules.specs.Traces.{Traced}
 use Rattle.gate.specs.declared.Setup.{Setup}
 use Rattle.checking.specs.declared.Verdict.{Verdict}
@@ -18,15 +18,15 @@ use Rattle.tracing.specs.declared.Stage.{Stage}
 use Rattle.tracing.specs.declared.Stage.the-variants.{Head, Sizes, Rows, Entries, Malformed}
 use Rattle.tracing.specs.declared.Trace.{Trace}
 use Rattle.tracing.specs.Shapes.{headFits, headSetup, sizesFit, withSizes, rowFits, withRow, entryFits, eventIn}
-use Rattle.tracing.specs.Shapes.{seenOf}
+use Rattle.tracing.specs.Shapes.{ranksOf, ranksKnown, seenOf}
 
--- the stage, how many lines and how many rows were read, the setup so far and the checker
-abbrev pub trace : Stage → ℕ → ℕ → Setup → Checker → Trace
-trace st n r s k = record { stage = st; lines = n; rows = r; setup = s; checker = k }
+-- the stage, how many lines and how many rows were read, R, the setup so far and the checker
+abbrev pub trace : Stage → ℕ → ℕ → ℕ → Setup → Checker → Trace
+trace st n r q s k = record { stage = st; lines = n; rows = r; ranks = q; setup = s; checker = k }
 
 -- before the first line
 unfoldable pub noneRead : Trace
-noneRead = trace Head 0 0 (headSetup []) (begun 0 (headSetup []))
+noneRead = trace Head 0 0 0 (headSetup []) (begun 0 (headSetup []))
 
 -- WHAT IS DECIDED
 
@@ -49,21 +49,28 @@ awaitsSizes (Refused n) = cond (eqb n badSize) Sizes Entries
 awaitsSizes Agrees = Entries
 awaitsSizes (Differs i p) = Entries
 
+-- a checker of a setup whose R isn't known: `refused 33`, whatever else is wrong with its tables
+abbrev pub ranked : ℕ → Checker → Checker
+ranked q k =
+    cond (ranksKnown q) k
+    (record { version = k .version; gate = k .gate; entries = k .entries; verdict = Refused badRanks })
+
 module _ (t : Trace) where
   abbrev pub malformed : Trace
-  malformed = trace Malformed (t .lines) (t .rows) (t .setup) (t .checker)
+  malformed = trace Malformed (t .lines) (t .rows) (t .ranks) (t .setup) (t .checker)
 
   -- Line S: then `refused 1`, `refused 2`, `refused 3`, whatever follows.
   abbrev pub headed : List ℕ → Trace
   headed vs =
       let k = begun (getD vs 0 0) (headSetup vs) in
-      trace (awaitsSizes (k .verdict)) (t .lines) 0 (headSetup vs) k
+      trace (awaitsSizes (k .verdict)) (t .lines) 0 (ranksOf vs) (headSetup vs) k
 
-  -- Lines Z and C: once N rows are there, `refused 4`, `refused 5`, whatever follows; or the entries begin.
+  -- Lines Z and C: once N rows are there, `refused 33`, `refused 4`, `refused 5`, whatever follows; or the entries
+  -- begin.
   abbrev pub tabled : ℕ → Setup → Trace
   tabled r s =
-      cond (ltb r (s .clients)) (trace Rows (t .lines) r s (t .checker))
-      (trace Entries (t .lines) r s (begun (t .checker .version) s))
+      cond (ltb r (s .clients)) (trace Rows (t .lines) r (t .ranks) s (t .checker))
+      (trace Entries (t .lines) r (t .ranks) s (ranked (t .ranks) (begun (t .checker .version) s)))
 
   abbrev pub sized : List ℕ → Trace
   sized vs = tabled (t .rows) (withSizes vs (t .setup))
@@ -73,7 +80,9 @@ module _ (t : Trace) where
 
   -- Lines E: an entry for the checker.
   abbrev pub entered : List ℕ → Trace
-  entered vs = trace Entries (t .lines) (t .rows) (t .setup) (checked (t .checker) (eventIn vs) (seenOf vs))
+  entered vs =
+      let v = t .checker .version in
+      trace Entries (t .lines) (t .rows) (t .ranks) (t .setup) (checked (t .checker) (eventIn v vs) (seenOf v vs))
 
 -- a line whose numbers fit, or a malformed one
 abbrev pub by : (List ℕ → Bool) → (List ℕ → Trace) → Trace → List ℕ → Trace
@@ -92,11 +101,11 @@ abbrev pub takenIn : Stage → Trace → List ℕ → Trace
 takenIn Head t = by headFits (headed t) (malformed t)
 takenIn Sizes t = by (sizesFit (t .setup .clusters)) (sized t) (malformed t)
 takenIn Rows t = by rowFits (rowed t) (malformed t)
-takenIn Entries t = by entryFits (entered t) (malformed t)
+takenIn Entries t = by (entryFits (t .checker .version)) (entered t) (malformed t)
 takenIn Malformed t = λ vs. t
 
 abbrev pub counted : Trace → Trace
-counted t = trace (t .stage) (nextCount (t .lines)) (t .rows) (t .setup) (t .checker)
+counted t = trace (t .stage) (nextCount (t .lines)) (t .rows) (t .ranks) (t .setup) (t .checker)
 
 unfoldable pub taken : Trace → List ℕ → Trace
 taken t l = cond (isDecided t) t (takenIn (t .stage) (counted t) (valuesOf (letterOf (t .stage)) l))
@@ -107,11 +116,12 @@ abbrev pub takenAll : Trace → List (List ℕ) → Trace
 takenAll t [] = t
 takenAll t (l ∷ ls) = takenAll (taken t l) ls
 
--- the entry that a line E says
-abbrev pub tracedIn : List ℕ → Traced
-tracedIn l = let vs = valuesOf (letterOf Entries) l in record { event = eventIn vs; seen = seenOf vs }
+module _ (v : ℕ) where
+  -- the entry that a line E says in a trace of version v
+  abbrev pub tracedIn : List ℕ → Traced
+  tracedIn l = let vs = valuesOf (letterOf Entries) l in record { event = eventIn v vs; seen = seenOf v vs }
 
--- each of the lines is a well formed entry
-abbrev pub AllEntries : List (List ℕ) → Type 0
-AllEntries [] = Unit {0}
-AllEntries (l ∷ ls) = (entryFits (valuesOf (letterOf Entries) l) ≡ true) × AllEntries ls
+  -- each of the lines is a well formed entry
+  abbrev pub AllEntries : List (List ℕ) → Type 0
+  AllEntries [] = Unit {0}
+  AllEntries (l ∷ ls) = (entryFits v (valuesOf (letterOf Entries) l) ≡ true) × AllEntries ls

@@ -27,12 +27,13 @@ pub enum Stage {
     Malformed,
 }
 
-// What has been read: how many lines, how many rows of clients, the setup so far, and the checker of the entries. A
+// What has been read: how many lines, how many rows of clients, R, the setup so far, and the checker of the entries. A
 // malformed line is the last one that is counted.
 pub struct Trace {
     pub stage: Stage,
     pub lines: u64,
     pub rows: u64,
+    pub ranks: u8,
     pub setup: Setup,
     pub checker: Checker,
 }
@@ -48,6 +49,7 @@ pub fn none_read() -> Trace
         stage: Stage::Head,
         lines: 0,
         rows: 0,
+        ranks: 0,
         setup: s,
         checker: start(0, s),
     }

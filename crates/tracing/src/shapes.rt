@@ -4,10 +4,13 @@ use checking::Served;
 use gate::Client;
 use gate::Gate;
 use gate::Setup;
+use layout::DEADLINES;
+use layout::carries_ranks;
 use layout::carries_tidy;
 use layout::is_version;
 use trace_lines::BITS_8;
 use trace_lines::BITS_16;
+use trace_lines::BITS_32;
 use trace_lines::NOBODY;
 use trace_lines::fit;
 ghost use mathlib.Core.Path.{_≡_};
@@ -16,9 +19,10 @@ ghost use lib.ListN.{getD};
 ghost use Rattle.rules.specs.Limits.{maxClusters};
 ghost use Rattle.gate.specs.Shown.{table};
 ghost use Rattle.checking.specs.Checking.{servedIn};
-ghost use Rattle.trace_lines.specs.Lines.{bits8, bits16, dash};
+ghost use Rattle.trace_lines.specs.Lines.{bits8, bits16, bits32, dash, fitIn};
 ghost use Rattle.tracing.specs.Shapes.{headFits, headSetup, HeadNumbers, sizesFit, withSizes, rowFits, withRow};
-ghost use Rattle.tracing.specs.Shapes.{RowNumbers, entryBegins, servedOf};
+ghost use Rattle.tracing.specs.Shapes.{headWidths, ranksOf, RowNumbers, entryWidths, answerAt, entryBegins};
+ghost use Rattle.tracing.specs.Shapes.{deadlineIn, servedOf};
 
 // The number at a place, 0 where there is none.
 pub fn value_at(vs: &[u64], i: usize) -> u64
@@ -41,6 +45,13 @@ pub fn word(x: u64) -> u16
     x as u16
 }
 
+fn double(x: u64) -> u32
+    requires { ⌜ x ≤ bits32 ⌝ }
+    ensures { λ r. ⌜ r ≡ x ⌝ }
+{
+    x as u32
+}
+
 // LINE S
 
 pub fn head_fits(vs: &[u64]) -> bool
@@ -54,12 +65,31 @@ pub fn head_fits(vs: &[u64]) -> bool
     if !is_version(version) {
         return false;
     }
+    numbers_fit(version, vs)
+}
+
+// Whether the numbers are those that the version carries.
+fn numbers_fit(version: u16, vs: &[u64]) -> bool
+    ensures { λ r. ⌜ r ≡ fitIn (headWidths version) (now (vs .entry)) ⌝ }
+{
+    if carries_ranks(version) {
+        let widths = [BITS_16, BITS_8, BITS_8, BITS_16, BITS_16, BITS_8];
+        return fit(&widths, vs);
+    }
     if carries_tidy(version) {
         let widths = [BITS_16, BITS_8, BITS_8, BITS_16, BITS_16];
         return fit(&widths, vs);
     }
     let widths = [BITS_16, BITS_8, BITS_8, BITS_16];
     fit(&widths, vs)
+}
+
+// R: 0 where the line has none.
+pub fn ranks_in(vs: &[u64]) -> u8
+    requires { ⌜ ranksOf (now vs) ≤ bits8 ⌝ }
+    ensures { λ r. ⌜ r ≡ ranksOf (now (vs .entry)) ⌝ }
+{
+    byte(value_at(vs, 5))
 }
 
 // The setup before its tables.
@@ -72,6 +102,7 @@ pub fn head_setup(vs: &[u64]) -> Setup
         clients: byte(value_at(vs, 2)),
         cap: word(value_at(vs, 3)),
         tidy: word(value_at(vs, 4)),
+        timed: ranks_in(vs) == DEADLINES,
         sizes: [0u8; 8],
         kinds: [0u8; 64],
         homes: [0u8; 64],
@@ -115,6 +146,7 @@ pub fn with_sizes(s: Setup, vs: &[u64]) -> Setup
         clients: s.clients,
         cap: s.cap,
         tidy: s.tidy,
+        timed: s.timed,
         sizes: sizes,
         kinds: kinds,
         homes: homes,
@@ -149,20 +181,53 @@ pub fn with_row(s: Setup, c: u64, vs: &[u64]) -> Setup
 
 // LINES E
 
-pub fn entry_begins(vs: &[u64]) -> bool
-    ensures { λ r. ⌜ r ≡ entryBegins (now (vs .entry)) ⌝ }
+// Where ANSWER stands; SERVED and the charges are behind it.
+pub fn answer_at(version: u16) -> usize
+    ensures { λ r. ⌜ (r ≡ answerAt version) × (r ≤ 3) ⌝ }
 {
-    if vs.len() < 4 {
-        return false;
+    if carries_ranks(version) {
+        return 3;
+    }
+    2
+}
+
+// Whether the numbers up to ANSWER fit.
+fn answer_fits(version: u16, vs: &[u64]) -> bool
+    ensures { λ r. ⌜ r ≡ fitIn (entryWidths version) (now (vs .entry)) ⌝ }
+{
+    if carries_ranks(version) {
+        let widths = [BITS_8, BITS_16, BITS_32, BITS_16];
+        return fit(&widths, vs);
     }
     let widths = [BITS_8, BITS_16, BITS_16];
-    if !fit(&widths, &vs[..3]) {
+    fit(&widths, vs)
+}
+
+pub fn entry_begins(version: u16, vs: &[u64]) -> bool
+    ensures { λ r. ⌜ r ≡ entryBegins version (now (vs .entry)) ⌝ }
+{
+    let served = answer_at(version) + 1;
+    if vs.len() <= served {
         return false;
     }
-    if vs[3] <= BITS_16 {
+    if !answer_fits(version, &vs[..served]) {
+        return false;
+    }
+    if vs[served] <= BITS_16 {
         return true;
     }
-    vs[3] == NOBODY
+    vs[served] == NOBODY
+}
+
+// The deadline, 0 where the line has none.
+pub fn deadline_in(version: u16, vs: &[u64]) -> u32
+    requires { ⌜ deadlineIn version (now vs) ≤ bits32 ⌝ }
+    ensures { λ r. ⌜ r ≡ deadlineIn version (now (vs .entry)) ⌝ }
+{
+    if carries_ranks(version) {
+        return double(value_at(vs, 2));
+    }
+    0
 }
 
 // Whom SERVED says.

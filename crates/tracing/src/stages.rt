@@ -2,10 +2,13 @@
 
 use crate::Stage;
 use crate::Trace;
+use crate::shapes::answer_at;
 use crate::shapes::byte;
+use crate::shapes::deadline_in;
 use crate::shapes::entry_begins;
 use crate::shapes::head_fits;
 use crate::shapes::head_setup;
+use crate::shapes::ranks_in;
 use crate::shapes::row_fits;
 use crate::shapes::served_in;
 use crate::shapes::sizes_fit;
@@ -13,11 +16,14 @@ use crate::shapes::value_at;
 use crate::shapes::with_row;
 use crate::shapes::with_sizes;
 use crate::shapes::word;
+use checking::Checker;
 use checking::Verdict;
 use checking::check_sound;
 use checking::next_count;
 use checking::start;
 use gate::Setup;
+use layout::DEADLINES;
+use layout::PRIORITIES;
 use trace_lines::narrowed;
 ghost use mathlib.Core.Path.{_≡_};
 ghost use mathlib.Core.Bool.{true};
@@ -25,10 +31,13 @@ ghost use Prim.Native.Nat.{_≤_};
 ghost use lib.ListN.{length, drop};
 ghost use Rattle.checking.specs.Checking.{Going};
 ghost use Rattle.tracing.specs.declared.Stage.the-variants as stage;
-ghost use Rattle.tracing.specs.Shapes.{HeadNumbers, entryBegins};
-ghost use Rattle.tracing.specs.Tracing.{malformed as Tracing·malformed, awaitsSizes};
+ghost use Rattle.tracing.specs.Shapes.{HeadNumbers, chargesAt, entryBegins};
+ghost use Rattle.tracing.specs.Tracing.{malformed as Tracing·malformed, awaitsSizes, ranked as Tracing·ranked};
 ghost use Rattle.tracing.specs.Tracing.{headed as Tracing·headed, tabled as Tracing·tabled};
 ghost use Rattle.tracing.specs.Tracing.{entered as Tracing·entered, letterOf, takenIn};
+
+// The number of a refusal of its R.
+const BAD_RANKS: u64 = 33;
 
 // ONE MORE LINE, which t has counted
 
@@ -41,6 +50,7 @@ fn malformed(t: Trace) -> Trace
         stage: Stage::Malformed,
         lines: t.lines,
         rows: t.rows,
+        ranks: t.ranks,
         setup: s,
         checker: k,
     }
@@ -74,8 +84,29 @@ fn headed(t: Trace, vs: &[u64]) -> Trace
         stage: awaits_sizes(v),
         lines: t.lines,
         rows: 0,
+        ranks: ranks_in(vs),
         setup: s,
         checker: k,
+    }
+}
+
+// The checker of a setup whose R isn't known is refused with 33, whatever else is wrong with its tables.
+fn ranked(q: u8, k: Checker) -> Checker
+    requires { ⌜ Going k ⌝ }
+    ensures { λ r. ⌜ (r ≡ Tracing·ranked q k) × Going r ⌝ }
+{
+    if q == PRIORITIES {
+        return k;
+    }
+    if q == DEADLINES {
+        return k;
+    }
+    let g = k.gate;
+    Checker {
+        version: k.version,
+        gate: g,
+        entries: k.entries,
+        verdict: Verdict::Refused(BAD_RANKS),
     }
 }
 
@@ -90,36 +121,42 @@ fn tabled(t: Trace, rows: u64, s: Setup) -> Trace
             stage: Stage::Rows,
             lines: t.lines,
             rows: rows,
+            ranks: t.ranks,
             setup: s,
             checker: k,
         };
     }
-    let first = start(k.version, s);
+    let first = ranked(t.ranks, start(k.version, s));
     Trace {
         stage: Stage::Entries,
         lines: t.lines,
         rows: rows,
+        ranks: t.ranks,
         setup: s,
         checker: first,
     }
 }
 
 fn entered(t: Trace, vs: &[u64], charges: &[u32]) -> Trace
-    requires { ⌜ (entryBegins (now vs) ≡ true) × (now charges ≡ drop 4 (now vs)) ⌝ }
+    requires { ⌜ (entryBegins (t .checker .version) (now vs) ≡ true)
+        × (now charges ≡ drop (chargesAt (t .checker .version)) (now vs)) ⌝ }
     requires { ⌜ Going (t .checker) ⌝ }
     ensures { λ r. ⌜ (r ≡ Tracing·entered t (now (vs .entry))) × Going (r .checker) ⌝ }
 {
     let s = t.setup;
     let k = t.checker;
+    let at = answer_at(k.version);
     let code = byte(value_at(vs, 0));
     let argument = word(value_at(vs, 1));
-    let answer = word(value_at(vs, 2));
-    let served = served_in(value_at(vs, 3));
-    let next = check_sound(k, code, argument, answer, served, charges);
+    let deadline = deadline_in(k.version, vs);
+    let answer = word(value_at(vs, at));
+    let served = served_in(value_at(vs, at + 1));
+    let next = check_sound(k, code, argument, deadline, answer, served, charges);
     Trace {
         stage: Stage::Entries,
         lines: t.lines,
         rows: t.rows,
+        ranks: t.ranks,
         setup: s,
         checker: next,
     }
@@ -164,13 +201,15 @@ fn entry_line(t: Trace, vs: &[u64], charges: &mut [u32]) -> Trace
     requires { ⌜ Going (t .checker) ⌝ }
     ensures { λ r. ⌜ (r ≡ takenIn stage.Entries t (now (vs .entry))) × Going (r .checker) ⌝ }
 {
-    if !entry_begins(vs) {
+    let k = t.checker;
+    let before = answer_at(k.version) + 2;
+    if !entry_begins(k.version, vs) {
         return malformed(t);
     }
-    if !narrowed(&vs[4..], charges) {
+    if !narrowed(&vs[before..], charges) {
         return malformed(t);
     }
-    let n = vs.len() - 4;
+    let n = vs.len() - before;
     entered(t, vs, &charges[..n])
 }
 

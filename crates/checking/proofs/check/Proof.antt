@@ -30,7 +30,7 @@ entered-requires c κs = search needs
 
 returns-2 : tie.Need-returns-2
 returns-2 c =
-    let i = c .before .before .before .before .before .before in
+    let i = c .before .before .before .before .before .before .before in
     let s = i .before .before .before in
     let a = s .args in
     let step = c .before .before .before .step-heard in

@@ -21,7 +21,7 @@ heard-in-requires c κs = search needs
 
 sound-heard-requires : tie.Need-sound-heard-requires
 sound-heard-requires c κs =
-    let i = c .before .before in
+    let i = c .before .before .before in
     i .before .before .before .pre (sym (i .before .is-agreeing .ensures) ∙ not-false _ (i .if1 .left))
 
 number-requires : tie.Need-number-requires
@@ -32,7 +32,7 @@ entered-requires c κs = search needs
 
 returns-2 : tie.Need-returns-2
 returns-2 c =
-    let i = c .before .before .before .before .before .before in
+    let i = c .before .before .before .before .before .before .before in
     let s = i .before .before .before in
     let a = s .args in
     let step = c .before .before .before .sound-heard in

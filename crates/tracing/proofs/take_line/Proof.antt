@@ -47,7 +47,7 @@ returns-2 c =
     let s = i .before .before .before in
     let t = s .args .t in
     let line = s .args .line .now in
-    let at : ℕ → Trace = λ m. trace (t .stage) m (t .rows) (t .setup) (t .checker) in (
+    let at : ℕ → Trace = λ m. trace (t .stage) m (t .rows) (t .ranks) (t .setup) (t .checker) in (
       c .first-taken .ensures .0
           ∙ ap (takenIn (t .stage) (at (l .before .next-count .result))) (n .ensures .1)
           ∙ ap₂ (λ (m x : ℕ). takenIn (t .stage) (at m) (valuesOf x line))

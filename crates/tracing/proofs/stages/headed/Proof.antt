@@ -1,8 +1,8 @@
 -- `tracing::headed` meets its contract.
 -- Assumes nothing.
 use mathlib.Core.Path.{_∙_}
-use Rattle.tracing.proofs.Taken.{headed-is}
 use borrow.Author.Needs.{needs}
+use Rattle.tracing.proofs.Taken.{headed-is}
 use Rattle.tracing.proofs.stages.headed.Statement.{statement}
 use Rattle.tracing.proofs.stages.headed.Tie as tie
 
@@ -21,14 +21,18 @@ start-requires c κs = search needs
 awaits-sizes-requires : tie.Need-awaits-sizes-requires
 awaits-sizes-requires c κs = search needs
 
+ranks-in-requires : tie.Need-ranks-in-requires
+ranks-in-requires c κs = search needs
+
 returns : tie.Need-returns
 returns c =
-    let s = c .before .before .before .before in
+    let st = c .before .before in
+    let s = st .before .before .before in
     let a = s .before .before .args in (
       headed-is (a .t) (a .vs .now) (s .head-setup .ensures)
-          (c .before .before .word .ensures ∙ c .before .before .before .value-at .ensures)
-          (c .before .start .ensures .0) (c .awaits-sizes .ensures),
-      c .before .start .ensures .1,
+          (st .before .word .ensures ∙ st .before .before .value-at .ensures) (st .start .ensures .0)
+          (c .before .awaits-sizes .ensures) (c .ranks-in .ensures),
+      st .start .ensures .1,
     )
 
 pub headed-spec : {M : Type 1} → statement M
@@ -40,4 +44,5 @@ headed-spec =
     word-requires
     start-requires
     awaits-sizes-requires
+    ranks-in-requires
     returns)

@@ -2,8 +2,8 @@
 -- Assumes nothing.
 use native.Mathlib.Omega.{arith}
 use borrow.Author.Tests.{lt-ltb, le-ltb}
-use Rattle.tracing.proofs.Taken.{rows-left, rows-done}
 use borrow.Author.Needs.{needs}
+use Rattle.tracing.proofs.Taken.{rows-left, rows-done}
 use Rattle.tracing.proofs.stages.tabled.Statement.{statement}
 use Rattle.tracing.proofs.stages.tabled.Tie as tie
 
@@ -22,15 +22,18 @@ returns c =
 start-requires : tie.Need-start-requires
 start-requires c κs = search needs
 
+ranked-requires : tie.Need-ranked-requires
+ranked-requires c κs = search needs
+
 returns-2 : tie.Need-returns-2
 returns-2 c =
-    let i = c .before in
+    let i = c .before .before in
     let a = i .before .before .before .args in (
       rows-done (a .t) (a .rows) (a .s)
           (le-ltb (a .rows) (a .s .clients) (omega (arith, i .if1 .left, i .before .wide .ensures)))
-          (c .start .ensures .0),
-      c .start .ensures .1,
+          (c .before .start .ensures .0) (c .ranked .ensures .0),
+      c .ranked .ensures .1,
     )
 
 pub tabled-spec : {M : Type 1} → statement M
-tabled-spec = tie.close (tie.spec wide-requires returns start-requires returns-2)
+tabled-spec = tie.close (tie.spec wide-requires returns start-requires ranked-requires returns-2)
