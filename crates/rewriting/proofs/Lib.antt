@@ -2,6 +2,7 @@
 pub mod Puts
 pub mod Texts
 pub mod ReadBack
+pub mod Events
 pub mod WriteBack
 pub mod Within
 pub mod Prints
