@@ -14,8 +14,9 @@ use Rattle.rules.specs.Setup.{realTime, clustersFit, firstBadSize, firstBadRow,
 use Rattle.rules.specs.Lists.{has}
 use Rattle.rules.specs.State.{State, fresh, isIdle, isSpent, isServing, isTidying, capOf}
 use Rattle.rules.specs.Queues.{waits}
+use Rattle.rules.specs.Rank.{outranks}
 use Rattle.rules.specs.Events.{Event, invoke, run, reply, abort, ready}
-use Rattle.rules.specs.Step.{present, overcharges, answer}
+use Rattle.rules.specs.Step.{fitForm, present, overcharges, answerBy, answer}
 use Rattle.rules.specs.Records.{Heard, known, replyReady, unknown, answerOf, stepOf}
 use Rattle.rules.specs.Replay.{Entry, entriesFrom}
 use Rattle.rules.specs.Quote.{Order, quote, AllTrue}
@@ -39,7 +40,7 @@ use Rattle.step.specs.Stepped.{Result, stepped}
 use Rattle.log.specs.declared.Opening.the-variants.{Records, Refused}
 use Rattle.log.specs.declared.Refusal.{Refusal}
 use Rattle.log.specs.declared.Refusal.the-variants.{Long, Short, BadMark, BadVersion, BadClusters, NoCap}
-use Rattle.log.specs.declared.Refusal.the-variants.{ManyClients, CutTables, BadSize, BadRow, CutRecord}
+use Rattle.log.specs.declared.Refusal.the-variants.{ManyClients, CutTables, BadRanks, BadSize, BadRow, CutRecord}
 use Rattle.layout.specs.Tables.{versionIn, setupIn}
 use Rattle.log.specs.Opening.{told, openingOf}
 use Rattle.layout.specs.Layout.{recordSize}
@@ -96,25 +97,27 @@ refused-log l r e = rw e
 
 -- .. and one whose last record is cut by the lines of its whole records, then 23 and that record's offset.
 pub cut-log : (l : List ℕ) (start : ℕ) → openingOf l ≡ Records start
-    → (start + recordSize * whole l start ≡ length l → ⊥)
+    → (start + recordSize (versionIn l) * whole l start ≡ length l → ⊥)
     → reportOf l ≡ heading (versionIn l) (setupIn l .clusters) (setupIn l .clients) (setupIn l .cap) (setupIn l .tidy)
     ++ (entryLines 0 (entriesFrom (setupOf (setupIn l)) fresh (heardsIn l start))
-    ++ refusedLine (record { number = logCut; offset = start + recordSize * whole l start }))
+    ++ refusedLine (record { number = logCut; offset = start + recordSize (versionIn l) * whole l start }))
 unfolding reportOf replayed lastLines
-cut-log l start e n = rw (e, ne-eqb (start + recordSize * whole l start) (length l) n)
+cut-log l start e n = rw (e, ne-eqb (start + recordSize (versionIn l) * whole l start) (length l) n)
 
 -- EVERY NUMBER IS ONE OF THE DOCUMENTS'
 
 rules-number : (u : rules.Setup) (s : State) (e : Event) → has (answer u s e) ofEvent ≡ true
-unfolding answer
-rules-number u s (invoke c) =
-    by-test (leb (u .clients) c) (λ a. rw a) λ a.
-    by-test (present u s c) (λ b. rw (a, b)) (λ b. rw (a, b))
+unfolding answerBy
+rules-number u s (invoke c o) =
+    by-test (fitForm (u .timed) o) (λ f.
+    by-test (leb (u .clients) c) (λ a. rw (f, a)) λ a.
+    by-test (present u s c) (λ b. rw (f, a, b)) (λ b. rw (f, a, b)))
+    (λ f. rw f)
 rules-number u s (run n) =
     by-test (eqb n 0) (λ a. rw a) λ a.
     by-test (isIdle (s .server)) (λ b. rw (a, b)) λ b.
     by-test (ltb (capOf u (s .server)) (s .units + n)) (λ d. rw (a, b, d)) λ d.
-    by-test (overcharges u s n) (λ e. rw (a, b, d, e)) (λ e. rw (a, b, d, e))
+    by-test (overcharges u (outranks u s) s n) (λ e. rw (a, b, d, e)) (λ e. rw (a, b, d, e))
 rules-number u s reply = by-test (isServing (s .server)) (λ a. rw a) (λ a. rw a)
 rules-number u s (abort c) =
     by-test (leb (u .clients) c) (λ a. rw a) λ a.
@@ -165,7 +168,7 @@ unfolding asked
 text-number s =
     by-test (ltb maxBytes (length s)) (λ a. rw a) (λ a. rw a (order-number (orderFrom (values s))))
 
--- a refused log, or a cut record of it, 20 to 24 or what its setup is refused with.
+-- a refused log, or a cut record of it, 20 to 24, 33 or what its setup is refused with.
 pub log-number : (r : Refusal) → has (told r .number) ofLog ≡ true
 log-number Long = refl
 log-number Short = refl
@@ -175,6 +178,7 @@ log-number BadClusters = refl
 log-number NoCap = refl
 log-number ManyClients = refl
 log-number CutTables = refl
+log-number BadRanks = refl
 log-number (BadSize at) = refl
 log-number (BadRow at) = refl
 log-number (CutRecord at) = refl

@@ -13,7 +13,7 @@ use Rattle.rules.specs.State.{fresh}
 use Rattle.rules.specs.Rank.{outranks}
 use Rattle.rules.specs.Queues.{refill, queue, pick}
 use Rattle.rules.specs.Events.{invoked, ran, replied, aborted, readied}
-use Rattle.rules.specs.Step.{answer, next, step}
+use Rattle.rules.specs.Step.{answerBy, movedBy, nextBy, stepBy}
 use Rattle.rules.specs.Records.{Record, Heard, eventOf, heardOf}
 use Rattle.rules.specs.Replay.{entriesFrom}
 use Rattle.rules.specs.History.{said, struck}
@@ -54,7 +54,7 @@ pub cut-opens : openingOf cutBytes ≡ Records 10
 unfolding openingOf headOf tablesOf setupIn verdictOf setupAnswer table
 cut-opens = refl
 
-pub cut-short : 10 + recordSize * whole cutBytes 10 ≡ length cutBytes → ⊥
+pub cut-short : 10 + recordSize 1 * whole cutBytes 10 ≡ length cutBytes → ⊥
 cut-short e = omega (arith, e)
 
 -- DEMAND 3: THE LOG OF DOCUMENT 01
@@ -65,6 +65,7 @@ logHeld = record {
   clients = logSetup .clients;
   cap = logSetup .cap;
   tidy = logSetup .tidy;
+  timed = logSetup .timed;
   sizes = table 8 (logSetup .size);
   kinds = table 64 (logSetup .kind);
   homes = table 64 (logSetup .cluster);
@@ -85,23 +86,23 @@ client-known = omega arith
 
 -- what the records of a log of version 1 say, the latest first
 abbrev heards : List Record → List Heard
-heards rs = map (heardOf 1) (reverse rs)
+heards rs = map (heardOf 1 false) (reverse rs)
 
 -- m = 1, K = 1, L = 10: the gate has charged client 1 with (2 + 2)10 after the log ..
 pub reached : chargeAfter (made logHeld .gate) (heards logRecords) 1 ≡ worst 1 1 10
-unfolding table trimmedIn zeroPast eventOf answer next step
+unfolding table trimmedIn zeroPast eventOf answerBy movedBy nextBy stepBy
     outranks refill queue pick invoked ran replied aborted readied
 reached = stored logHeld bytes-accepted (heards logRecords) 1 (omega arith) ∙ refl
 
 -- .. and with (1 + 2)10 where nobody is aborted.
 pub not-struck :
     struck (u logHeld bytes-accepted) 1 (said (u logHeld bytes-accepted) (heards quietRecords)) ≡ false
-unfolding table trimmedIn zeroPast eventOf answer next step
+unfolding table trimmedIn zeroPast eventOf answerBy movedBy nextBy stepBy
     outranks refill queue pick invoked ran replied aborted readied
 not-struck = refl
 
 pub reached-unstruck : chargeAfter (made logHeld .gate) (heards quietRecords) 1 ≡ worstUnstruck 1 1 10
-unfolding table trimmedIn zeroPast eventOf answer next step
+unfolding table trimmedIn zeroPast eventOf answerBy movedBy nextBy stepBy
     outranks refill queue pick invoked ran replied aborted readied
 reached-unstruck = stored logHeld bytes-accepted (heards quietRecords) 1 (omega arith) ∙ refl
 
@@ -117,7 +118,8 @@ pub log-written : logPut 1 logHeld logRecords (replicate 65 0) .told .number ≡
 unfolding logPut onwards formPut itemPut setupBytes verdictOf setupAnswer table eventOf
 log-written = refl
 
-pub log-known : NoneUnknown (setupOf logHeld) fresh (map (heardOf 1) logRecords)
-unfolding entriesFrom table eventOf answer next step outranks refill queue pick invoked ran replied aborted readied
+pub log-known : NoneUnknown (setupOf logHeld) fresh (map (heardOf 1 false) logRecords)
+unfolding entriesFrom table eventOf answerBy movedBy nextBy stepBy
+    outranks refill queue pick invoked ran replied aborted readied
 log-known =
     (refl, (refl, (refl, (refl, (refl, (refl, (refl, (refl, (refl, (refl, (refl, (refl, (refl, tt)))))))))))))

@@ -1,8 +1,8 @@
 -- The panel writes its own log, in a version that the caller names: what the writer answers and leaves, that reading
 -- gives back what was written, and that writing what was read gives the same bytes. Assumes nothing.
 use Prim.Native.Nat.{ℕ, _+_, _*_, _≤_}
-use mathlib.Core.Path.{_≡_, refl, _∙_}
-use mathlib.Core.Bool.{true, false, not}
+use mathlib.Core.Path.{_≡_, refl, sym, ap, _∙_}
+use mathlib.Core.Bool.{Bool, true, false, not, _&&_}
 use mathlib.Core.List.{List, [], _∷_, map}
 use lib.Dec.{eqb}
 use lib.ListN.{length, take}
@@ -11,8 +11,8 @@ use Rattle.rules.specs.Refusals.{accepted, unknownRecord, badVersion, noRoom}
 use Rattle.rules.specs.Setup as rules
 use Rattle.rules.specs.State.{State, fresh}
 use Rattle.rules.specs.Events.{Event}
-use Rattle.rules.specs.Records.{Record, Heard, known, replyReady, unknown, isVersion, isKnown, heardOf}
-use Rattle.rules.specs.Records.{recordOf, answerOf, stepOf}
+use Rattle.rules.specs.Records.{Record, Heard, known, replyReady, unknown, isKnown, heardOf}
+use Rattle.rules.specs.Records.{recordOf, formFits, answerOf, stepOf}
 use Rattle.rules.specs.Replay.{entriesFrom}
 use Rattle.rules.proofs.Tests.{by-test, clash}
 use Rattle.rules.proofs.Lists.{has-tail}
@@ -29,12 +29,14 @@ use Rattle.log.specs.Reading.{whole, recordsIn, heardsIn}
 use Rattle.log.proofs.Openings.{opens}
 use Rattle.log.proofs.Again.{log-again}
 use Rattle.writing.specs.declared.Answer.the-variants.{Written}
-use Rattle.writing.specs.Writing.{told, lacksRoom, formPut, versionFits, setupTold, setupPut, recordTold, recordPut}
+use Rattle.writing.specs.Writing.{told, Left, lacksRoom, formPut, versionRanks, versionFits, setupTold, setupPut}
+use Rattle.writing.specs.Writing.{recordTold, recordPut, eventTold, eventPut}
 use Rattle.writing.proofs.Room.{item-number, item-same}
-use Rattle.rewriting.specs.Sequence.{logPut}
+use Rattle.rewriting.specs.Sequence.{logPut, eventsPut}
 use Rattle.rewriting.specs.RoundTrip.{ReadBack, AllBytes, lastAnswer, writtenUpTo}
 use Rattle.rewriting.specs.Printed.{printedOf, textOf}
-use Rattle.rewriting.proofs.ReadBack.{writes-log, read-back, says-events}
+use Rattle.rewriting.proofs.ReadBack.{writes-log, says-events}
+use Rattle.rewriting.proofs.Events.{events-put, events-read}
 use Rattle.rewriting.proofs.WriteBack.{write-back, write-back-whole}
 use Rattle.rewriting.proofs.Prints.{printed-text}
 use Rattle.demands.specs.Histories.{NoneUnknown}
@@ -57,11 +59,17 @@ pub refused-setup-same : (v : ℕ) (u : Setup) (out : List ℕ) → (setupPut v 
     → (setupPut v u out .used ≡ 0) × (setupPut v u out .bytes ≡ out)
 refused-setup-same v u out n = form-same (setupTold v u) (setupBytes v u) 0 out n
 
--- and of a record.
-pub refused-record-same : (v : ℕ) (r : Record) (used : ℕ) (out : List ℕ)
-    → (recordPut v r used out .told .number ≡ accepted → ⊥)
-    → (recordPut v r used out .used ≡ used) × (recordPut v r used out .bytes ≡ out)
-refused-record-same v r used out n = form-same (recordTold v r) (recordBytes r) used out n
+-- of a record,
+pub refused-record-same : (v : ℕ) (timed : Bool) (r : Record) (used : ℕ) (out : List ℕ)
+    → (recordPut v timed r used out .told .number ≡ accepted → ⊥)
+    → (recordPut v timed r used out .used ≡ used) × (recordPut v timed r used out .bytes ≡ out)
+refused-record-same v timed r used out n = form-same (recordTold v timed r) (recordBytes v r) used out n
+
+-- and of an event.
+pub refused-event-same : (v : ℕ) (timed : Bool) (e : Event) (used : ℕ) (out : List ℕ)
+    → (eventPut v timed e used out .told .number ≡ accepted → ⊥)
+    → (eventPut v timed e used out .used ≡ used) × (eventPut v timed e used out .bytes ≡ out)
+refused-event-same v timed e used out n = form-same (eventTold v timed e) (recordBytes v (recordOf e)) used out n
 
 form-number : (ns : List ℕ) → has accepted ns ≡ true → has noRoom ns ≡ true → (t : Told) (item : List ℕ) (used : ℕ)
     (out : List ℕ) → has (t .number) ns ≡ true → has (formPut t item used out .told .number) ns ≡ true
@@ -78,22 +86,32 @@ pub write-setup-number : (v : ℕ) (u : Setup) (out : List ℕ)
 unfolding made
 write-setup-number v u out =
     form-number ofWrittenSetup refl refl (setupTold v u) (setupBytes v u) 0 out
-    (by-test (versionFits v (u .tidy))
+    (by-test (versionFits v (u .tidy) (u .timed))
     (λ b. rw b (has-tail (verdictOf (setupOf u) .number) badVersion (noRoom ∷ ofSetup)
     (has-tail (verdictOf (setupOf u) .number) noRoom ofSetup (setup-number u))))
     (λ b. rw b))
 
--- of a record 0, 18, 22 or 25.
-pub write-record-number : (v : ℕ) (r : Record) (used : ℕ) (out : List ℕ)
-    → has (recordPut v r used out .told .number) ofWrittenRecord ≡ true
-write-record-number v r used out =
-    form-number ofWrittenRecord refl refl (recordTold v r) (recordBytes r) used out
-    (by-test (isVersion v)
-    (λ b. by-test (isKnown (heardOf v r)) (λ k. rw (b, k)) (λ k. rw (b, k)))
+-- of a record 0, 18, 22 or 25,
+pub write-record-number : (v : ℕ) (timed : Bool) (r : Record) (used : ℕ) (out : List ℕ)
+    → has (recordPut v timed r used out .told .number) ofWrittenRecord ≡ true
+write-record-number v timed r used out =
+    form-number ofWrittenRecord refl refl (recordTold v timed r) (recordBytes v r) used out
+    (by-test (versionRanks v timed)
+    (λ b. by-test (isKnown (heardOf v timed r)) (λ k. rw (b, k)) (λ k. rw (b, k)))
     (λ b. rw b))
 
--- 22 comes first: for a version that is not known, and for version 1 where W is over 0.
-pub version-first : (v : ℕ) (u : Setup) (out : List ℕ) → versionFits v (u .tidy) ≡ false
+-- and so of an event.
+pub write-event-number : (v : ℕ) (timed : Bool) (e : Event) (used : ℕ) (out : List ℕ)
+    → has (eventPut v timed e used out .told .number) ofWrittenRecord ≡ true
+write-event-number v timed e used out =
+    form-number ofWrittenRecord refl refl (eventTold v timed e) (recordBytes v (recordOf e)) used out
+    (by-test (versionRanks v timed)
+    (λ b. by-test (formFits timed e && isKnown (heardOf v timed (recordOf e))) (λ k. rw (b, k)) (λ k. rw (b, k)))
+    (λ b. rw b))
+
+-- 22 comes first: for a version that is not known, for version 1 where W is over 0, and for versions 1 and 2 where the
+-- clients go by deadlines.
+pub version-first : (v : ℕ) (u : Setup) (out : List ℕ) → versionFits v (u .tidy) (u .timed) ≡ false
     → setupPut v u out .told .number ≡ badVersion
 unfolding formPut
 version-first v u out h = rw h
@@ -103,14 +121,18 @@ version-first v u out h = rw h
 -- Where no write was refused, the buffer begins with the bytes of the log of the setup and the events, in that version;
 -- behind them it is as it was.
 pub writer-writes : (v : ℕ) (u : Setup) (es : List Event) (out : List ℕ)
-    → logPut v u (map recordOf es) out .told .number ≡ accepted
-    → (logPut v u (map recordOf es) out .used ≡ length (logBytes v u (map recordOf es)))
-    × (logPut v u (map recordOf es) out .bytes ≡ written out 0 (logBytes v u (map recordOf es)))
-writer-writes v u es out e = let h = writes-log v u es out e in (h .used, h .bytes)
+    → eventsPut v u es out .told .number ≡ accepted
+    → (eventsPut v u es out .used ≡ length (logBytes v u (map recordOf es)))
+    × (eventsPut v u es out .bytes ≡ written out 0 (logBytes v u (map recordOf es)))
+writer-writes v u es out e =
+    let same = events-put v u es out e .1 in
+    let h = writes-log v u es out (ap (λ (t : Left). t .told .number) (sym same) ∙ e) in
+    (ap (λ (t : Left). t .used) same ∙ h .used, ap (λ (t : Left). t .bytes) same ∙ h .bytes)
 
 -- A log that is accepted is the bytes of the setup and of the records that are read of it, with or without a form.
 pub reader-reads : (l : List ℕ) → AllBytes l → (start : ℕ) → openingOf l ≡ Records start
-    → start + recordSize * whole l start ≡ length l → logBytes (versionIn l) (setupIn l) (recordsIn l start) ≡ l
+    → start + recordSize (versionIn l) * whole l start ≡ length l
+    → logBytes (versionIn l) (setupIn l) (recordsIn l start) ≡ l
 reader-reads l bytes start o uncut = log-again l bytes start (opens l start o) uncut
 
 -- READ BACK
@@ -119,9 +141,9 @@ reader-reads l bytes start o uncut = log-again l bytes start (opens l start o) u
 -- version, for any version, any setup, any events and any buffer in which no write was refused. (Every setup that the
 -- code can hold is `Sized`.)
 pub written-is-read : (v : ℕ) (u : Setup) (es : List Event) (out : List ℕ)
-    → logPut v u (map recordOf es) out .told .number ≡ accepted → Sized u
-    → ReadBack v u es (take (logPut v u (map recordOf es) out .used) (logPut v u (map recordOf es) out .bytes))
-written-is-read = read-back
+    → eventsPut v u es out .told .number ≡ accepted → Sized u
+    → ReadBack v u es (take (eventsPut v u es out .used) (eventsPut v u es out .bytes))
+written-is-read = events-read
 
 -- From version 2 on these are the events themselves.
 pub events-are-read : (v : ℕ) → (v ≡ 1 → ⊥) → (u : Setup) (es : List Event) (l : List ℕ) → ReadBack v u es l
@@ -146,7 +168,7 @@ module _ (l out : List ℕ) (bytes : AllBytes l) (fits : length l ≤ length out
     (o : openingOf l ≡ Records start) where
   -- Writing what was read, in its own version, gives the same bytes, for every log that is accepted, to its end, and in
   -- which no record is answered 18.
-  pub read-is-written : start + recordSize * whole l start ≡ length l
+  pub read-is-written : start + recordSize (versionIn l) * whole l start ≡ length l
       → NoneUnknown (setupOf (setupIn l)) fresh (heardsIn l start)
       → logPut (versionIn l) (setupIn l) (recordsIn l start) out
       ≡ record { told = told Written; used = length l; bytes = written out 0 l }

@@ -5,7 +5,7 @@ use mathlib.Core.List.{List, [], _∷_}
 use Rattle.rules.specs.Refusals.{accepted, badClusters, noCap, manyClients, badSize, badRow, noClient}
 use Rattle.rules.specs.Refusals.{waitsAlready, serverIdle, runOfNone, runPastCap, notWaiting, bestEffort}
 use Rattle.rules.specs.Refusals.{spentAlready, unknownRecord, unsound, notTidying, logShort, badMark}
-use Rattle.rules.specs.Refusals.{badVersion, logCut, logLong, noRoom, fieldOut, overPeriod, badLines}
+use Rattle.rules.specs.Refusals.{badVersion, logCut, logLong, noRoom, badRanks, fieldOut, overPeriod, badLines}
 
 -- 0, and 1 to 5
 abbrev pub ofSetup : List ℕ
@@ -17,10 +17,11 @@ ofEvent =
     accepted ∷ noClient ∷ waitsAlready ∷ serverIdle ∷ runOfNone ∷ runPastCap ∷ notWaiting ∷ bestEffort ∷ spentAlready ∷
     unknownRecord ∷ unsound ∷ notTidying ∷ []
 
--- 20 to 24, and a setup's own
+-- 20 to 24, 33, and a setup's own
 abbrev pub ofLog : List ℕ
 ofLog =
-    logShort ∷ badMark ∷ badVersion ∷ logCut ∷ logLong ∷ badClusters ∷ noCap ∷ manyClients ∷ badSize ∷ badRow ∷ []
+    logShort ∷ badMark ∷ badVersion ∷ logCut ∷ logLong ∷ badRanks ∷ badClusters ∷ noCap ∷ manyClients ∷ badSize ∷
+    badRow ∷ []
 
 -- the writer's, for a setup: its own, 22 and 25
 abbrev pub ofWrittenSetup : List ℕ
