@@ -22,6 +22,10 @@ def tidy(r, g):
     g.W = r.choice((0, g.units, max(g.units - 1, 0))) % 65536
 
 
+def ranks(r, g):
+    g.timed = not g.timed
+
+
 def clients(r, g):
     g.N = r.choice((65, 255, max(g.N - 1, 0), g.N + 1))
 
@@ -234,8 +238,42 @@ def charge(r, g):
         g.charges[r.choice(real)] = r.choice((LIMIT, LIMIT, LIMIT + 1, LIMIT + 1, 2 ** 31, 2 ** 32 - 1))
 
 
-# ANY BYTES, but those of the server: other cases than five are no gate.
-BYTES = [i for i in range(LAYOUT.size) if i not in range(470, 473)]
+# DEADLINES: others where they may be, and some where they may not
+
+def any_deadline(r):
+    """Few enough that equal ones meet, and some that differ in one of their four bytes alone."""
+    return r.choice((0, 1, r.randint(0, 3), r.randrange(256) << 8 * r.randrange(4), 2 ** 31 - r.randint(0, 1),
+                     2 ** 32 - 1 - r.randint(0, 1), r.getrandbits(32)))
+
+
+def date(r, g, clients):
+    if clients:
+        g.deadlines[r.choice(clients)] = any_deadline(r)
+
+
+def deadline(r, g):
+    date(r, g, [c for c in range(g.N) if g.kinds[c] == 0 and waits(g, c)])
+
+
+def absent_deadline(r, g):
+    date(r, g, [c for c in free(g) if c < g.N and g.kinds[c] == 0])
+
+
+def spent_deadline(r, g):
+    date(r, g, [g.served] if g.server == SPENT else [])
+
+
+def best_deadline(r, g):
+    date(r, g, [c for c in range(g.N) if g.kinds[c] == 1])
+
+
+def deadline_past(r, g):
+    date(r, g, [g.N, 63] if g.N < 64 else [])
+
+
+# ANY BYTES, but the one that says how clients rank and those of the server: of these, others than 0 and 1, and other
+# cases than five, are no gate.
+BYTES = [i for i in range(LAYOUT.size) if i != 6 and i not in range(471, 474)]
 
 
 def overwrite(r, g, times):
@@ -254,10 +292,11 @@ def noise(r, g):
     overwrite(r, g, r.choice((2, 10, 100, 2000)))
 
 
-DAMAGES = [clusters, cap, tidy, clients, size, kind, home, priority, size_past, row_past, gap, number, room_number, line_past,
-           room_past, newcomer, newcomer_in_room, newcomer_in_background, leaver, room_leaver, twice, twice_in_room,
-           spent_again, line_swap, queue_swap, queue_other, queued_twice, served_queued, blocked_front_queued,
-           server_case, served, falls_idle, falls_tidying, idle_units, serves_another, units, best_charge, charge, byte, noise]
+DAMAGES = [clusters, cap, tidy, ranks, clients, size, kind, home, priority, size_past, row_past, gap, number,
+           room_number, line_past, room_past, newcomer, newcomer_in_room, newcomer_in_background, leaver, room_leaver,
+           twice, twice_in_room, spent_again, line_swap, queue_swap, queue_other, queued_twice, served_queued,
+           blocked_front_queued, server_case, served, falls_idle, falls_tidying, idle_units, serves_another, units,
+           best_charge, charge, deadline, absent_deadline, spent_deadline, best_deadline, deadline_past, byte, noise]
 
 
 def damaged(r, g):

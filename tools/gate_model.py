@@ -1,5 +1,5 @@
-# A plain model of the gate, written from document 01 and what request 2 of document 02 changes in it: what a sound gate
-# is, and what a record does to one.
+# A plain model of the gate, written from document 01 and what requests 2 and 5 of document 02 change in it: what a
+# sound gate is, and what a record of the newest logs does to one.
 # It shares nothing with the crates but the layout of a gate as bytes. Used by tools/draw_doors.py.
 import struct
 
@@ -7,10 +7,11 @@ UNUSED = 255
 LIMIT = 33554431
 IDLE, FRONT, BEST, SPENT, TIDYING = 0, 1, 2, 3, 4
 
-# The layout, numbers with their low byte first: K, N, L, W, 8 sizes, 64 kinds, 64 clusters, 64 priorities, 8 lines of 8
-# places, 8 waiting rooms, 8 places of the global queue, 64 of the background queue, the server's case and its client
-# (0 when idle or tidying), the units served or tidied, 64 charges.
-LAYOUT = struct.Struct('<BBHH8s64s64s64H64s8Q8s64sBHI64I')
+# The layout, numbers with their low byte first: K, N, L, W, 1 for deadlines or 0 for priorities, 8 sizes, 64 kinds, 64
+# clusters, 64 priorities, 8 lines of 8 places, 8 waiting rooms, 8 places of the global queue, 64 of the background
+# queue, the server's case and its client (0 when idle or tidying), the units served or tidied, 64 charges, 64
+# deadlines.
+LAYOUT = struct.Struct('<BBHH?8s64s64s64H64s8Q8s64sBHI64I64I')
 
 
 class Gate:
@@ -21,28 +22,28 @@ class Gate:
 
     def read(g, data):
         f = list(LAYOUT.unpack(data))
-        g.K, g.N, g.L, g.W = f[0:4]
-        g.sizes, g.kinds, g.homes = (list(b) for b in f[4:7])
-        g.priorities = f[7:71]
-        g.lines = [list(f[71][8 * k:8 * k + 8]) for k in range(8)]
-        g.rooms = f[72:80]
-        g.queue, g.background = list(f[80]), list(f[81])
-        g.server, g.served, g.units = f[82:85]
-        g.charges = f[85:149]
+        g.K, g.N, g.L, g.W, g.timed = f[0:5]
+        g.sizes, g.kinds, g.homes = (list(b) for b in f[5:8])
+        g.priorities = f[8:72]
+        g.lines = [list(f[72][8 * k:8 * k + 8]) for k in range(8)]
+        g.rooms = f[73:81]
+        g.queue, g.background = list(f[81]), list(f[82])
+        g.server, g.served, g.units = f[83:86]
+        g.charges, g.deadlines = f[86:150], f[150:214]
 
     def data(g):
-        return LAYOUT.pack(g.K, g.N, g.L, g.W, bytes(g.sizes), bytes(g.kinds), bytes(g.homes), *g.priorities,
+        return LAYOUT.pack(g.K, g.N, g.L, g.W, g.timed, bytes(g.sizes), bytes(g.kinds), bytes(g.homes), *g.priorities,
                            bytes(sum(g.lines, [])), *g.rooms, bytes(g.queue), bytes(g.background),
-                           g.server, g.served, g.units, *g.charges)
+                           g.server, g.served, g.units, *g.charges, *g.deadlines)
 
     def copy(g):
         return Gate(g.data())
 
 
-def fresh(K, N, L, W, sizes, rows):
+def fresh(K, N, L, W, timed, sizes, rows):
     """The fresh gate of a setup; a row is (kind, cluster, priority)."""
     g = Gate(bytes(LAYOUT.size))
-    g.K, g.N, g.L, g.W = K, N, L, W
+    g.K, g.N, g.L, g.W, g.timed = K, N, L, W, timed
     g.sizes[:K] = sizes
     for c, (kind, home, priority) in enumerate(rows):
         g.kinds[c], g.homes[c], g.priorities[c] = kind, home, priority
@@ -90,11 +91,16 @@ def is_blocked(g, k):
     return g.server == SPENT and g.homes[g.served] == k
 
 
+def rank(g, c):
+    """By its deadline or its priority, as the setup says; equal ones by client number. The smaller outranks."""
+    return g.deadlines[c] if g.timed else g.priorities[c], c
+
+
 def outranks(g, a, b):
-    return (g.priorities[a], a) < (g.priorities[b], b)
+    return rank(g, a) < rank(g, b)
 
 
-# SOUND: the sentence of document 01, part by part
+# SOUND: the sentence of document 01 with what document 02 adds, part by part
 
 def queues(g):
     return g.lines + [g.queue, g.background]
@@ -136,6 +142,7 @@ SOUND = (
     ('clusters past N are zero', lambda g: not any(g.homes[g.N:])),
     ('priorities past N are zero', lambda g: not any(g.priorities[g.N:])),
     ('charges past N are zero', lambda g: not any(g.charges[g.N:])),
+    ('deadlines past N are zero', lambda g: not any(g.deadlines[g.N:])),
     ('used places of a line come first', lambda g: all(used_first(line) for line in g.lines)),
     ('used places of the global queue come first', lambda g: used_first(g.queue)),
     ('used places of the background queue come first', lambda g: used_first(g.background)),
@@ -171,6 +178,11 @@ SOUND = (
     ('an idle server means that no best-effort client waits', lambda g: g.server != IDLE or used(g.background) == []),
     ('best-effort charges are 0', lambda g: not any(g.charges[c] for c in range(g.N) if g.kinds[c] == 1)),
     ('no charge is over 33,554,431', lambda g: all(x <= LIMIT for x in g.charges)),
+    ('the deadline of a client that does not wait is 0',
+     lambda g: all(waits(g, c) or is_spent(g, c) for c in range(g.N) if g.deadlines[c])),
+    ('the deadline of a spent client is 0', lambda g: g.server != SPENT or g.deadlines[g.served] == 0),
+    ('best-effort deadlines are 0', lambda g: not any(g.deadlines[c] for c in range(g.N) if g.kinds[c] == 1)),
+    ('all deadlines are 0 under priorities', lambda g: g.timed or not any(g.deadlines)),
 )
 
 
@@ -205,7 +217,7 @@ def leave(places, c):
 def refill(g, k):
     """If the line has room and the waiting room isn't empty, the highest in rank moves to the line's end."""
     if len(used(g.lines[k])) < g.sizes[k] and room(g, k):
-        c = min(room(g, k), key=lambda a: (g.priorities[a], a))
+        c = min(room(g, k), key=lambda a: rank(g, a))
         g.rooms[k] &= ~(1 << c)
         join(g.lines[k], c)
 
@@ -228,7 +240,7 @@ def join_front(g, k):
         join(g.queue, g.lines[k][0])
 
 
-def invoke(g, c):
+def invoke(g, c, deadline):
     if c >= g.N:
         return 10
     if waits(g, c) or is_spent(g, c):
@@ -237,7 +249,7 @@ def invoke(g, c):
     if g.kinds[c] == 1:
         join(g.background, c)
     else:
-        g.charges[c] = 0
+        g.charges[c], g.deadlines[c] = 0, deadline
         if len(used(g.lines[k])) < g.sizes[k]:
             join(g.lines[k], c)
             if g.lines[k][0] == c and not is_blocked(g, k):
@@ -276,6 +288,7 @@ def reply(g):
     was, c, k = g.server, g.served, g.homes[g.served]
     g.server, g.served, g.units = TIDYING, 0, 0
     if was == FRONT:
+        g.deadlines[c] = 0
         leave(g.lines[k], c)
         refill(g, k)
     if was in (FRONT, SPENT):
@@ -301,6 +314,7 @@ def abort(g, c):
     if is_spent(g, c):
         return 17
     k = g.homes[c]
+    g.deadlines[c] = 0
     if c in room(g, k):
         g.rooms[k] &= ~(1 << c)
         return 0
@@ -315,17 +329,24 @@ def abort(g, c):
     return 0
 
 
-def step_sound(g, code, argument):
-    """The answer to a record and the gate after it; the same gate where it is refused."""
+def has_form(g, code, argument, deadline):
+    """A reply and a ready have no argument; a deadline is an invoke's, and only where clients go by deadlines."""
     if code not in (1, 2, 3, 4, 5) or (code in (3, 5) and argument != 0):
+        return False
+    return deadline == 0 or (code == 1 and g.timed)
+
+
+def step_sound(g, code, argument, deadline=0):
+    """The answer to a record and the gate after it; the same gate where it is refused."""
+    if not has_form(g, code, argument, deadline):
         return 18, g
     after = g.copy()
-    event = {1: lambda: invoke(after, argument), 2: lambda: run(after, argument), 3: lambda: reply(after),
+    event = {1: lambda: invoke(after, argument, deadline), 2: lambda: run(after, argument), 3: lambda: reply(after),
              4: lambda: abort(after, argument), 5: lambda: ready(after)}
     answer = event[code]()
     return answer, after if answer == 0 else g
 
 
-def step(g, code, argument):
+def step(g, code, argument, deadline):
     """The same for any gate."""
-    return step_sound(g, code, argument) if sound(g) else (19, g)
+    return step_sound(g, code, argument, deadline) if sound(g) else (19, g)

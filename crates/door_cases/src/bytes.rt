@@ -2,6 +2,7 @@
 
 use crate::gates::BACKGROUND;
 use crate::gates::CHARGES;
+use crate::gates::DEADLINES;
 use crate::gates::GLOBAL;
 use crate::gates::HOMES;
 use crate::gates::KINDS;
@@ -10,6 +11,7 @@ use crate::gates::PRIORITIES;
 use crate::gates::ROOMS;
 use crate::gates::SERVER;
 use crate::gates::SIZES;
+use crate::gates::TIMED;
 use crate::gates::UNITS;
 use gate::Client;
 use gate::Gate;
@@ -48,7 +50,7 @@ fn server_byte(s: Server, j: usize) -> u8
 }
 
 fn setup_byte(s: Setup, i: usize) -> u8
-    requires { ⌜ i < 270 ⌝ }
+    requires { ⌜ i < 271 ⌝ }
 {
     if i >= KINDS {
         return row_byte(s, i);
@@ -62,15 +64,18 @@ fn setup_byte(s: Setup, i: usize) -> u8
     if i < 4 {
         return octet_of(wide16(s.cap), i - 2);
     }
-    if i < SIZES {
+    if i < TIMED {
         return octet_of(wide16(s.tidy), i - 4);
+    }
+    if i < SIZES {
+        return s.timed as u8;
     }
     s.sizes[i - SIZES]
 }
 
 // A byte of the kinds, clusters and priorities.
 fn row_byte(s: Setup, i: usize) -> u8
-    requires { ⌜ (14 ≤ i) × (i < 270) ⌝ }
+    requires { ⌜ (15 ≤ i) × (i < 271) ⌝ }
 {
     if i < HOMES {
         return s.kinds[i - KINDS];
@@ -78,12 +83,15 @@ fn row_byte(s: Setup, i: usize) -> u8
     if i < PRIORITIES {
         return s.homes[i - HOMES];
     }
-    octet_of(wide16(s.priorities[(i - PRIORITIES) / 2]), i % 2)
+    octet_of(
+        wide16(s.priorities[(i - PRIORITIES) / 2]),
+        (i - PRIORITIES) % 2,
+    )
 }
 
 // A byte of the lines, the waiting rooms and the global queue.
 fn queue_byte(g: Gate, i: usize) -> u8
-    requires { ⌜ (270 ≤ i) × (i < 406) ⌝ }
+    requires { ⌜ (271 ≤ i) × (i < 407) ⌝ }
 {
     if i < ROOMS {
         let line = g.lines[(i - LINES) / 8];
@@ -95,9 +103,9 @@ fn queue_byte(g: Gate, i: usize) -> u8
     g.global[i - GLOBAL]
 }
 
-// A byte of the background queue, the server, the units and the charges.
+// A byte of the background queue, the server, the units, the charges and the deadlines.
 fn service_byte(g: Gate, i: usize) -> u8
-    requires { ⌜ (406 ≤ i) × (i < 733) ⌝ }
+    requires { ⌜ (407 ≤ i) × (i < 990) ⌝ }
 {
     if i < SERVER {
         return g.background[i - BACKGROUND];
@@ -108,12 +116,18 @@ fn service_byte(g: Gate, i: usize) -> u8
     if i < CHARGES {
         return octet_of(wide32(g.units), i - UNITS);
     }
-    octet_of(wide32(g.charges[(i - CHARGES) / 4]), (i - CHARGES) % 4)
+    if i < DEADLINES {
+        return octet_of(wide32(g.charges[(i - CHARGES) / 4]), (i - CHARGES) % 4);
+    }
+    octet_of(
+        wide32(g.deadlines[(i - DEADLINES) / 4]),
+        (i - DEADLINES) % 4,
+    )
 }
 
 // Byte i of a gate.
 pub fn byte_of(g: Gate, i: usize) -> u8
-    requires { ⌜ i < 733 ⌝ }
+    requires { ⌜ i < 990 ⌝ }
 {
     if i < LINES {
         return setup_byte(g.setup, i);

@@ -1,6 +1,7 @@
-// A gate as bytes: every field in its turn, numbers with their low byte first. K, N, L, W, 8 sizes, 64 kinds, 64
-// clusters, 64 priorities, 8 lines of 8 places, 8 waiting rooms, 8 places of the global queue, 64 of the background
-// queue, the server's case and its client (0 when idle or tidying), the units served or tidied, 64 charges.
+// A gate as bytes: every field in its turn, numbers with their low byte first. K, N, L, W, 1 for deadlines or 0 for
+// priorities, 8 sizes, 64 kinds, 64 clusters, 64 priorities, 8 lines of 8 places, 8 waiting rooms, 8 places of the
+// global queue, 64 of the background queue, the server's case and its client (0 when idle or tidying), the units served
+// or tidied, 64 charges, 64 deadlines.
 
 use gate::Client;
 use gate::Gate;
@@ -8,45 +9,39 @@ use gate::Line;
 use gate::Server;
 use gate::Setup;
 use layout::byte_at;
+use layout::double_at;
 use layout::word_at;
 ghost use Prim.Native.Nat.{_<_};
 
 // The bytes of a gate.
-pub const GATE: usize = 733;
+pub const GATE: usize = 990;
 
 // Where each field begins.
-pub const SIZES: usize = 6;
+pub const TIMED: usize = 6;
 
-pub const KINDS: usize = 14;
+pub const SIZES: usize = 7;
 
-pub const HOMES: usize = 78;
+pub const KINDS: usize = 15;
 
-pub const PRIORITIES: usize = 142;
+pub const HOMES: usize = 79;
 
-pub const LINES: usize = 270;
+pub const PRIORITIES: usize = 143;
 
-pub const ROOMS: usize = 334;
+pub const LINES: usize = 271;
 
-pub const GLOBAL: usize = 398;
+pub const ROOMS: usize = 335;
 
-pub const BACKGROUND: usize = 406;
+pub const GLOBAL: usize = 399;
 
-pub const SERVER: usize = 470;
+pub const BACKGROUND: usize = 407;
 
-pub const UNITS: usize = 473;
+pub const SERVER: usize = 471;
 
-pub const CHARGES: usize = 477;
+pub const UNITS: usize = 474;
 
-fn long(low: u16, high: u16) -> u32 {
-    low as u32 + 65536 * (high as u32)
-}
+pub const CHARGES: usize = 478;
 
-// 32 bits.
-fn long_at(b: &[u8], i: usize) -> u32
-    requires { ⌜ i < 1000 ⌝ }
-{
-    long(word_at(b, i), word_at(b, i + 2))
-}
+pub const DEADLINES: usize = 734;
 
 fn set(low: u32, high: u32) -> u64 {
     low as u64 + 4294967296 * (high as u64)
@@ -56,7 +51,7 @@ fn set(low: u32, high: u32) -> u64 {
 fn set_at(b: &[u8], i: usize) -> u64
     requires { ⌜ i < 900 ⌝ }
 {
-    set(long_at(b, i), long_at(b, i + 4))
+    set(double_at(b, i), double_at(b, i + 4))
 }
 
 fn eight_at(b: &[u8], i: usize) -> [u8; 8]
@@ -126,7 +121,7 @@ fn server_in(b: &[u8]) -> Server {
     Server::Idle
 }
 
-// The gate of some bytes, but for its columns of 64.
+// The gate of some bytes, but for its columns of 64. Any byte but 0 says deadlines.
 fn without_columns(b: &[u8]) -> Gate {
     let sizes = eight_at(b, SIZES);
     let kinds = [0u8; 64];
@@ -137,6 +132,7 @@ fn without_columns(b: &[u8]) -> Gate {
         clients: byte_at(b, 1),
         cap: word_at(b, 2),
         tidy: word_at(b, 4),
+        timed: byte_at(b, TIMED) != 0,
         sizes: sizes,
         kinds: kinds,
         homes: homes,
@@ -148,6 +144,7 @@ fn without_columns(b: &[u8]) -> Gate {
     let background = [0u8; 64];
     let server = server_in(b);
     let charges = [0u32; 64];
+    let deadlines = [0u32; 64];
     Gate {
         setup: setup,
         lines: lines,
@@ -155,8 +152,9 @@ fn without_columns(b: &[u8]) -> Gate {
         global: global,
         background: background,
         server: server,
-        units: long_at(b, UNITS),
+        units: double_at(b, UNITS),
         charges: charges,
+        deadlines: deadlines,
     }
 }
 
@@ -179,7 +177,8 @@ fn with_places(g: Gate, b: &[u8], i: usize) -> Gate
     let mut filled = g;
     filled.setup = setup;
     filled.background[i] = byte_at(b, BACKGROUND + i);
-    filled.charges[i] = long_at(b, CHARGES + 4 * i);
+    filled.charges[i] = double_at(b, CHARGES + 4 * i);
+    filled.deadlines[i] = double_at(b, DEADLINES + 4 * i);
     filled
 }
 

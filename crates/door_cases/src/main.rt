@@ -1,5 +1,5 @@
-// Tries the doors on gates from standard input. A case is a gate's bytes, a record's code and its 16-bit argument; its
-// line is 1 if the gate is sound, else 0, the answer, and each byte that the step changed.
+// Tries the doors on gates from standard input. A case is a gate's bytes and those of a record, as the newest logs have
+// it; its line is 1 if the gate is sound, else 0, the answer, and each byte that the step changed.
 mod bytes;
 mod gates;
 
@@ -8,6 +8,7 @@ use gate::Gate;
 use gates::GATE;
 use gates::gate_in;
 use layout::byte_at;
+use layout::double_at;
 use layout::word_at;
 use libc::STDIN_FILENO;
 use step::Answered;
@@ -21,7 +22,10 @@ use text::wide_size;
 ghost use Prim.Native.Nat.{_+_, _*_, _≤_};
 ghost use lib.ListN.{length};
 
-const CASE: usize = GATE + layout::RECORD;
+// A code, a 16-bit argument and a 32-bit deadline.
+const RECORD: usize = layout::RECORD_DEADLINE + 4;
+
+const CASE: usize = GATE + RECORD;
 
 // Room for the longest line: 22 bytes before the changes, 42 a change, and an LF.
 const LINE: usize = 22 + 42 * GATE + 1;
@@ -80,6 +84,7 @@ fn tried(g: Gate, case: &[u8]) -> Answered {
         g,
         byte_at(case, GATE),
         word_at(case, GATE + layout::RECORD_ARGUMENT),
+        double_at(case, GATE + layout::RECORD_DEADLINE),
     )
 }
 
@@ -107,7 +112,7 @@ fn put_answer(out: &mut [u8; LINE], f: u8, n: u64) -> usize
 // Each byte of a gate that differs from the case's own.
 fn put_changes(out: &mut [u8; LINE], at: usize, case: &[u8], g: Gate) -> usize
     requires { ⌜ at ≤ 22 ⌝ }
-    ensures { λ r. ⌜ r ≤ at + 42 * 733 ⌝ }
+    ensures { λ r. ⌜ r ≤ at + 42 * 990 ⌝ }
 {
     let mut end = at;
     let mut i: usize = 0;
@@ -119,7 +124,7 @@ fn put_changes(out: &mut [u8; LINE], at: usize, case: &[u8], g: Gate) -> usize
 }
 
 fn put_change(out: &mut [u8; LINE], at: usize, i: usize, old: u8, new: u8) -> usize
-    requires { ⌜ at + 42 ≤ 30809 ⌝ }
+    requires { ⌜ at + 42 ≤ 41603 ⌝ }
     ensures { λ r. ⌜ r ≤ at + 42 ⌝ }
 {
     if old == new {

@@ -6,10 +6,10 @@ use Rattle.door_cases.proofs.put_changes.Statement.{statement}
 use Rattle.door_cases.proofs.put_changes.Tie as tie
 
 abbrev Inv-loop : tie.InvT-loop
-Inv-loop out₀ at case g end₀ i₀ out end i = (i ≤ 733) × (end ≤ at + 42 * i)
+Inv-loop out₀ at case g end₀ i₀ out end i = (i ≤ 990) × (end ≤ at + 42 * i)
 
 abbrev μ-loop : tie.MeasureT-loop
-μ-loop out₀ at case g end₀ i₀ out end i = 733 - i
+μ-loop out₀ at case g end₀ i₀ out end i = 990 - i
 
 loop-holds : tie.Need-loop-holds Inv-loop μ-loop
 loop-holds c = (omega arith, omega arith)
