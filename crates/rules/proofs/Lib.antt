@@ -8,6 +8,8 @@ pub mod TellSound
 pub mod TellHistory
 pub mod TellTidy
 pub mod TellDeadline
+pub mod TellDated
+pub mod TellRanks
 pub mod TellLimits
 pub mod TellBounds
 pub mod TellBudgets

@@ -105,5 +105,6 @@ readOf t =
     readAs (waiting two c h) (struck two c h) (struckInRoom two c h) (calls two c h) (owed two c h) (owedInAll two c h)
 
 pub historyCases-hold : map readOf historyCases ≡ map (λ (t : Telling). t .wanted) historyCases
-unfolding historyCases eventOf answerBy nextBy movedBy stepBy outranks refill queue pick invoked ran replied aborted readied
+unfolding historyCases eventOf answerBy nextBy movedBy stepBy outranks refill queue pick invoked ran replied
+    aborted readied
 historyCases-hold = refl

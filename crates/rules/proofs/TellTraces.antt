@@ -8,12 +8,12 @@ use mathlib.Core.Option.{Option, some, none}
 use Rattle.rules.specs.Setup.{Setup, setupAnswer}
 use Rattle.rules.specs.Rank.{outranks}
 use Rattle.rules.specs.Queues.{refill, queue, pick}
-use Rattle.rules.specs.Events.{invoked, ran, replied, aborted, readied}
+use Rattle.rules.specs.Events.{invoke, run, reply, ready, invoked, ran, replied, aborted, readied}
 use Rattle.rules.specs.Step.{answerBy, movedBy, nextBy, stepBy, answer, next}
 use Rattle.rules.specs.Records.{Record, eventOf}
 use Rattle.rules.specs.Traces.{Traced, seenFrom, theAnswer, theServed, theCharges, Verdict, refused, agrees}
-use Rattle.rules.specs.Traces.{differs, compared, traceVerdict}
-use Rattle.rules.proofs.Table.{rt, be, given, tidied, raw, invokes, runs, replies, readies}
+use Rattle.rules.specs.Traces.{differs, compared, traceVerdict, traced}
+use Rattle.rules.proofs.Table.{rt, be, given, tidied, due, raw, invokes, invokesBy, runs, replies, readies}
 
 -- a record, and what the kernel says of it
 abbrev pub entry : Record → ℕ → Option ℕ → List ℕ → Traced
@@ -59,6 +59,21 @@ right =
     entry (runs 4) 0 (some 1) (4 ∷ 0 ∷ 0 ∷ []) ∷
     []
 
+-- one cluster of size 1, L = 10 and W = 5, and three real-time clients that go by deadlines
+abbrev pub timed : Setup
+timed = due (1 ∷ []) (rt 0 1 ∷ rt 0 2 ∷ rt 0 3 ∷ []) 10 5
+
+-- clients 1 and 2 wait for client 0, and then somebody is in service
+abbrev pub timely : Option ℕ → List Traced
+timely o =
+    entry (invokesBy 0 5) 0 (some 0) (0 ∷ 0 ∷ 0 ∷ []) ∷
+    entry (invokesBy 1 9) 0 (some 0) (0 ∷ 0 ∷ 0 ∷ []) ∷
+    entry (invokesBy 2 0) 0 (some 0) (0 ∷ 0 ∷ 0 ∷ []) ∷
+    entry (runs 4) 0 (some 0) (0 ∷ 0 ∷ 4 ∷ []) ∷
+    entry replies 0 none (0 ∷ 0 ∷ 4 ∷ []) ∷
+    entry readies 0 o (0 ∷ 0 ∷ 4 ∷ []) ∷
+    []
+
 unfoldable pub traceCases : List Telling
 traceCases =
     -- WHAT IS ACCEPTED
@@ -81,6 +96,13 @@ traceCases =
     trace 1 (given (1 ∷ []) [] 10) (entry (invokes 0) 10 none [] ∷ []) agrees ∷
     -- a row past N is looked at
     trace 1 untrimmed (entry (invokes 0) 0 (some 0) (0 ∷ []) ∷ entry (invokes 1) 10 (some 0) (0 ∷ []) ∷ []) agrees ∷
+    -- under deadlines the records or the setup are taken for those under priorities, and the other way round
+    trace 3 timed (timely (some 2)) agrees ∷
+    trace 3 tidy (entry (invokesBy 0 5) 18 none (0 ∷ 0 ∷ 0 ∷ []) ∷ entry (invokes 0) 0 (some 0) (0 ∷ 0 ∷ 0 ∷ []) ∷ [])
+    agrees ∷
+    -- a kernel that goes by priorities under deadlines, or passes over a deadline under priorities, is right
+    trace 3 timed (timely (some 1)) (differs 5 theServed) ∷
+    trace 3 tidy (entry (invokesBy 0 5) 0 (some 0) (0 ∷ 0 ∷ 0 ∷ []) ∷ []) (differs 0 theAnswer) ∷
     -- WHICH OF THE THREE
 
     -- the answer alone, the client in service alone, a charge alone
@@ -141,3 +163,13 @@ pub traceCases-hold : map (λ (t : Telling). traceVerdict (t .version) (t .setup
 unfolding traceCases traceVerdict compared seenFrom setupAnswer
     eventOf answerBy nextBy movedBy stepBy outranks refill queue pick invoked ran replied aborted readied
 traceCases-hold = refl
+
+-- The events of a trace's records, by deadlines and by priorities.
+pub events-are : traced 3 timed (timely none)
+    ≡ ready ∷ reply ∷ run 4 ∷ invoke 2 (some 0) ∷ invoke 1 (some 9) ∷ invoke 0 (some 5) ∷ []
+unfolding eventOf
+events-are = refl
+
+pub events-are-untimed : traced 3 three right ≡ run 4 ∷ invoke 0 none ∷ invoke 1 none ∷ []
+unfolding eventOf
+events-are-untimed = refl
