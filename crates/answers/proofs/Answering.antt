@@ -50,8 +50,10 @@ answered-holds {v} {s} {x = x} h a = record {
 
 -- an accepted event, whose deadlines the queues don't show
 pub accepts : {v : Setup} {s : State} (e : Event) {r : Queues} {cs ks : List ℕ} → answer (setupOf v) s e ≡ accepted
-    → ShowsQueues v (movedBy (setupOf v) (outranks (setupOf v) s) s e) r → cs ≡ table maxClients (next (setupOf v) s e .charge)
-    → ShowsKeys v (next (setupOf v) s e) ks → Answers v s (known e) (record { answer = is.Accepted; queues = r }) cs ks
+    → ShowsQueues v (movedBy (setupOf v) (outranks (setupOf v) s) s e) r
+    → cs ≡ table maxClients (next (setupOf v) s e .charge)
+    → ShowsKeys v (next (setupOf v) s e) ks
+    → Answers v s (known e) (record { answer = is.Accepted; queues = r }) cs ks
 unfolding nextBy stepBy
 accepts {v} {s} e z h f k =
     let w = eq-eqb (answer (setupOf v) s e) accepted z in

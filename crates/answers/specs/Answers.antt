@@ -48,8 +48,8 @@ pub record Answers (v : Setup) (s : State) (x : Heard) (r : Outcome) (cs ks : Li
   pub charges : cs ≡ table maxClients (stepOf (setupOf v) s x .charge)
   pub keys : ShowsKeys v (stepOf (setupOf v) s x) ks
 
--- So it is in every sound state that the queues q, charges cs and keys ks show, of a setup of which p holds; cs′ and ks′
--- are the charges and keys after.
+-- So it is in every sound state that the queues q, charges cs and keys ks show, of a setup of which p holds; cs′ and
+-- ks′ are the charges and keys after.
 abbrev pub Hearing : (Setup → Type 0) → Heard → Queues → List ℕ → List ℕ → Outcome → List ℕ → List ℕ → Type 0
 Hearing p x q cs ks r cs′ ks′ = (v : Setup) (s : State) → p v → Holds v s q cs ks → Answers v s x r cs′ ks′
 

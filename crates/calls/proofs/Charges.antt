@@ -43,7 +43,8 @@ module _ {v : Setup} {s : State} {q : Queues} {cs ks : List ℕ} (h : Holds v s 
       (λ c b. sym (ap (λ (f : ℕ → ℕ). f c) (pick-charge (next (setupOf v) s reply))))
 
   pub abort-charge : (d : ℕ) → cs ≡ table maxClients (next (setupOf v) s (abort d) .charge)
-  abort-charge d = same-charge (abort d) (λ c. omega (arith, next-charge (setupOf v) c (outranks (setupOf v) s) s (abort d)))
+  abort-charge d =
+      same-charge (abort d) (λ c. omega (arith, next-charge (setupOf v) c (outranks (setupOf v) s) s (abort d)))
 
   -- a real-time client's charge became 0
   pub invoke-charge : (d : ℕ) (o : Option ℕ) {cs′ : List ℕ} → cs′ ≡ cond (realTime (setupOf v) d) (set cs d 0) cs
@@ -51,9 +52,11 @@ module _ {v : Setup} {s : State} {q : Queues} {cs ks : List ℕ} (h : Holds v s 
   invoke-charge d o e =
       e ∙ by-test (realTime (setupOf v) d)
       (λ r. rw (r, h .charges) (set-table maxClients (s .charge) d 0
-      ∙ table-same maxClients (upd (s .charge) d 0) _ (λ c b. sym (next-charge (setupOf v) c (outranks (setupOf v) s) s (invoke d o)
+      ∙ table-same maxClients (upd (s .charge) d 0) _ (λ c b.
+      sym (next-charge (setupOf v) c (outranks (setupOf v) s) s (invoke d o)
       ∙ here c r))))
-      (λ r. rw (r, h .charges) (table-same maxClients (s .charge) _ (λ c b. sym (next-charge (setupOf v) c (outranks (setupOf v) s) s (invoke d o)
+      (λ r. rw (r, h .charges) (table-same maxClients (s .charge) _ (λ c b.
+      sym (next-charge (setupOf v) c (outranks (setupOf v) s) s (invoke d o)
       ∙ away c r))))
     where
       here : (c : ℕ) → realTime (setupOf v) d ≡ true

@@ -1,5 +1,5 @@
--- The keys that an invoke, a reply, a ready and an abort leave: a wait's deadline comes with its invoke and goes when it
--- ends.
+-- The keys that an invoke, a reply, a ready and an abort leave: a wait's deadline comes with its invoke and goes when
+-- it ends.
 -- Assumes nothing.
 use Prim.Native.Nat.{ℕ, _<_}
 use mathlib.Core.Bool.{Bool, cond, false, true}

@@ -1,11 +1,13 @@
 // Invoke, reply, ready and abort on a gate's parts. Each answers as the rules do, and leaves the parts that show the
-// state after: a refused event leaves them as they were. Only invoke has to do with the charges. A wait's deadline comes
-// with its invoke, and goes with its reply or abort.
+// state after: a refused event leaves them as they were. Only invoke has to do with the charges.
+
+mod deadlines;
 
 use answers::Answer;
 use answers::Outcome;
+use deadlines::due;
+use deadlines::replied;
 use gate::Client;
-use gate::Server;
 use parts::Queues;
 ghost use mathlib.Core.Path.{_≡_};
 ghost use mathlib.Core.Bool.{cond};
@@ -20,29 +22,7 @@ ghost use Rattle.rules.specs.Records.{replyReady};
 ghost use Rattle.gate.specs.Shown.{serverOf};
 ghost use Rattle.parts.specs.Shows.{Homes, ServerFits};
 ghost use Rattle.answers.specs.Answers.{Hearing, Answering};
-ghost use Rattle.calls.specs.Due.{formIn, dueIn, repliedIn};
-
-// DEADLINES
-
-// The deadline of c, where clients go by deadlines; priorities stay.
-fn due(keys: &mut [u32; 64], timed: bool, c: Client, deadline: u32)
-    requires { ⌜ c .0 < maxClients ⌝ }
-    ensures { λ _. ⌜ now (keys .exit) ≡ dueIn timed (c .0) deadline (now (keys .entry)) ⌝ }
-{
-    if timed {
-        keys[rows::index(c)] = deadline;
-    }
-}
-
-// Of those in service only a front waits: its reply ends its wait.
-fn replied(keys: &mut [u32; 64], timed: bool, server: Server)
-    requires { ⌜ ServerFits (serverOf server) ⌝ }
-    ensures { λ _. ⌜ now (keys .exit) ≡ repliedIn timed (serverOf server) (now (keys .entry)) ⌝ }
-{
-    if serving::as_front(server) {
-        due(keys, timed, serving::served(server), 0);
-    }
-}
+ghost use Rattle.calls.specs.Due.{formIn, dueIn};
 
 // INVOKE
 

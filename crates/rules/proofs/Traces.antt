@@ -146,7 +146,8 @@ module _ (v : ℕ) (u : Setup) (es : List Traced) where
   as-many : length (reported v u es) ≡ length (ruled v u es)
   as-many =
       length-map es (λ (e : Traced). e .seen)
-      ∙ sym (length-seen (trimmed u) fresh (heards v (u .timed) es) ∙ length-map es (λ (e : Traced). heardOf v (u .timed) (e .event)))
+      ∙ sym (length-seen (trimmed u) fresh (heards v (u .timed) es)
+      ∙ length-map es (λ (e : Traced). heardOf v (u .timed) (e .event)))
 
   told : (x : Verdict) → ((k : ℕ) → x ≡ refused k → ⊥) → traceVerdict v u es ≡ x
       → (isVersion v ≡ true) × (eqb (setupAnswer u) accepted ≡ true) × (compared 0 (reported v u es) (ruled v u es) ≡ x)

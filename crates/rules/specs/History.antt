@@ -29,8 +29,8 @@ module _ (u : Setup) where
 
   -- WHAT IS KEPT ALONG A HISTORY
 
-  -- `change rank s e x`: what becomes of x with an accepted event e that found the state s and that rank. A refused event
-  -- changes nothing.
+  -- `change rank s e x`: what becomes of x with an accepted event e that found the state s and that rank. A refused
+  -- event changes nothing.
   abbrev pub changed : {A : Type 0} → (Rank → State → Event → A → A) → Rank → State → Event → A → A
   changed change rank s e x = cond (eqb (answerBy u rank s e) accepted) (change rank s e x) x
 

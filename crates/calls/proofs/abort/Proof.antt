@@ -109,7 +109,8 @@ returns-5 c =
     let b = f .before .before .before .before .before in
     let a = b .before .before .before .before .before in
     let d = a .before .before .before .before .args .c .0 in
-    let low : d < 64 = omega (arith, a .before .before .before .index .ensures, a .before .before .before .before .pre) in
+    let low : d < 64 =
+    omega (arith, a .before .before .before .index .ensures, a .before .before .before .before .pre) in
     λ cs v s e h.
     let waiting = waits-is (h .queues) (rw (e .1) at (b .before .before .before .before .home .ensures)) _ _ in
     accepts (abort d)

@@ -16,9 +16,10 @@ due-requires c κs = search needs
 
 returns : tie.Need-returns
 returns c =
-    let b = c .before .before .before .before .before in (
-      rw (← b .is-real-time .ensures, c .before .before .before .before .if1 .taken) (c .before .before .reset .ensures),
-      rw (← b .is-real-time .ensures, c .before .before .before .before .if1 .taken) (c .due .ensures),
+    let i = c .before .before .before .before in
+    let b = i .before in (
+      rw (← b .is-real-time .ensures, i .if1 .taken) (c .before .before .reset .ensures),
+      rw (← b .is-real-time .ensures, i .if1 .taken) (c .due .ensures),
     )
 
 returns-2 : tie.Need-returns-2

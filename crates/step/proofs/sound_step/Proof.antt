@@ -51,13 +51,17 @@ returns : tie.Need-returns
 returns c =
     λ v s g h.
     rw (c .before .before .before .before .e .given .1)
-    (c .invoke .ensures v s (g .kinds, g .homes, g .sizes, c .before .before .before .before .before .before .wide .ensures ∙ g .clients, g .timed) h)
+    (c .invoke .ensures v s
+    (g .kinds, g .homes, g .sizes, c .before .before .before .before .before .before .wide .ensures ∙ g .clients, g .timed)
+    h)
 
 returns-2 : tie.Need-returns-2
 returns-2 c =
     λ v s g h.
     rw (c .before .before .before .before .e2 .given .1)
-    (c .invoke2 .ensures v s (g .kinds, g .homes, g .sizes, c .before .before .before .before .before .before .wide .ensures ∙ g .clients, g .timed) h)
+    (c .invoke2 .ensures v s
+    (g .kinds, g .homes, g .sizes, c .before .before .before .before .before .before .wide .ensures ∙ g .clients, g .timed)
+    h)
 
 returns-3 : tie.Need-returns-3
 returns-3 c =
@@ -74,7 +78,9 @@ returns-5 : tie.Need-returns-5
 returns-5 c =
     λ v s g h.
     rw (c .before .before .before .e4 .given .1)
-    (c .abort .ensures _ v s (g .kinds, g .homes, g .sizes, c .before .before .before .before .before .wide .ensures ∙ g .clients, g .timed) h)
+    (c .abort .ensures _ v s
+    (g .kinds, g .homes, g .sizes, c .before .before .before .before .before .wide .ensures ∙ g .clients, g .timed)
+    h)
 
 returns-6 : tie.Need-returns-6
 returns-6 c =

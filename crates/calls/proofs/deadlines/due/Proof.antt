@@ -1,8 +1,8 @@
 -- `calls::due` meets its contract.
 -- Assumes nothing.
 use borrow.Author.Needs.{needs}
-use Rattle.calls.proofs.due.Statement.{statement}
-use Rattle.calls.proofs.due.Tie as tie
+use Rattle.calls.proofs.deadlines.due.Statement.{statement}
+use Rattle.calls.proofs.deadlines.due.Tie as tie
 
 index-requires : tie.Need-index-requires
 index-requires c κs = search needs

@@ -12,8 +12,8 @@ use Rattle.gate.specs.Shown.{serverOf}
 use Rattle.parts.specs.Shows.{ServerFits}
 use Rattle.serving.specs.Service.{asFront, servedBy}
 use Rattle.calls.specs.Due.{dueIn, repliedIn}
-use Rattle.calls.proofs.replied.Statement.{statement}
-use Rattle.calls.proofs.replied.Tie as tie
+use Rattle.calls.proofs.deadlines.replied.Statement.{statement}
+use Rattle.calls.proofs.deadlines.replied.Tie as tie
 
 front-fits : (x : Server) → asFront x ≡ true → ServerFits x → servedBy x < maxClients
 front-fits idle e f = clash e refl
@@ -47,7 +47,8 @@ due-requires : tie.Need-due-requires
 due-requires c κs =
     let b = c .before .before in
     rw (c .served .ensures)
-    (front-fits (serverOf (b .before .before .args .server)) (sym (b .before .as-front .ensures) ∙ b .if1 .taken) (b .before .before .pre))
+    (front-fits (serverOf (b .before .before .args .server)) (sym (b .before .as-front .ensures) ∙ b .if1 .taken)
+    (b .before .before .pre))
 
 returns : tie.Need-returns
 returns c =
@@ -61,7 +62,8 @@ returns c =
 returns-2 : tie.Need-returns-2
 returns-2 c =
     let s = c .before .before in
-    other-due (s .args .timed) (s .args .keys .now) (serverOf (s .args .server)) (sym (c .before .as-front .ensures) ∙ c .if1 .left)
+    other-due (s .args .timed) (s .args .keys .now) (serverOf (s .args .server))
+    (sym (c .before .as-front .ensures) ∙ c .if1 .left)
 
 pub replied-spec : {M : Type 1} → statement M
 replied-spec =
