@@ -3,12 +3,16 @@
 
 use answers::Answer;
 use answers::Outcome;
+use gate::Client;
 use gate::Event;
 use gate::Gate;
 use gate::Heard;
 use gate::NEWEST_VERSION;
 use gate::Setup;
+use gate::argument;
+use gate::deadline;
 use gate::heard_in;
+use gate::is_dated;
 use parts::Queues;
 ghost use mathlib.Core.Path.{_≡_};
 ghost use mathlib.Core.Bool.{true};
@@ -49,36 +53,23 @@ pub fn sound_step<'a>(
 {
     let n = gate::wide(clients);
     match e {
-        Event::Invoke(c) => calls::invoke(
-            q,
-            kinds,
-            homes,
-            sizes,
-            n,
-            timed,
-            charges,
-            keys,
-            c,
-            false,
-            0,
-        ),
-        Event::InvokeBy(c, d) => calls::invoke(
-            q,
-            kinds,
-            homes,
-            sizes,
-            n,
-            timed,
-            charges,
-            keys,
-            c,
-            true,
-            d,
-        ),
         Event::Run(t) => running::run(q, sizes, keys, gate::wide(clusters), cap, tidy, charges, t),
         Event::Reply => calls::reply(q, homes, sizes, timed, keys),
         Event::Abort(c) => calls::abort(q, kinds, homes, sizes, n, timed, keys, c),
         Event::Ready => calls::ready(q),
+        _ => calls::invoke(
+            q,
+            kinds,
+            homes,
+            sizes,
+            n,
+            timed,
+            charges,
+            keys,
+            Client(argument(e)),
+            is_dated(e),
+            deadline(e),
+        ),
     }
 }
 
