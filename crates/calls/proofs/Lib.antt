@@ -2,3 +2,4 @@
 pub mod Charges
 pub mod Keys
 pub mod Refusing
+pub mod Cases

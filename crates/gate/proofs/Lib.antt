@@ -4,3 +4,4 @@ pub mod Zeros
 pub mod Making
 pub mod Tables
 pub mod Only
+pub mod Cases

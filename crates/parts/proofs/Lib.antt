@@ -5,3 +5,4 @@ pub mod Turns
 pub mod Fits
 pub mod Parts
 pub mod Keys
+pub mod Cases

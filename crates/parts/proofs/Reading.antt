@@ -139,7 +139,16 @@ module _ (v : Setup) (s : State) (g : Gate) (h : Shows v s g) (w : Within s) whe
           → a ≡ a′ → b ≡ b′ → c ≡ c′ → d ≡ d′ → e ≡ e′ → f ≡ f′ → x ≡ x′ → y ≡ y′
           → _≡_ {A = State}
           (record { lines = a; room = b; global = c; background = d; server = e; units = f; charge = x; deadline = y })
-          (record { lines = a′; room = b′; global = c′; background = d′; server = e′; units = f′; charge = x′; deadline = y′ })
+          (record {
+            lines = a′;
+            room = b′;
+            global = c′;
+            background = d′;
+            server = e′;
+            units = f′;
+            charge = x′;
+            deadline = y′;
+          })
       same p q r s t u v w = rw (p, q, r, s, t, u, v, w)
 
 -- SHOWING WHAT IS READ
