@@ -6,10 +6,9 @@ use mathlib.Core.Bool.{true, false}
 use mathlib.Core.List.{List}
 use lib.Dec.{ltb}
 use lib.ListN.{getD, drop}
-use borrow.Author.Tests.{eq-eqb, ne-eqb}
 use Rattle.rules.specs.Refusals.{badRanks}
 use Rattle.gate.specs.declared.Setup.{Setup}
-use Rattle.layout.specs.Layout.{prioritiesByte, deadlinesByte}
+use Rattle.layout.specs.Layout.{isRanks}
 use Rattle.checking.specs.declared.Served.{Served}
 use Rattle.checking.specs.declared.Verdict.the-variants.{Refused}
 use Rattle.checking.specs.declared.Checker.{Checker}
@@ -23,17 +22,12 @@ use Rattle.tracing.specs.Tracing.{trace, awaitsSizes, ranked, headed, ta
 -- R IS KNOWN, OR NOT
 
 module _ (q : ℕ) (k : Checker) where
-  pub by-priorities : q ≡ prioritiesByte → k ≡ ranked q k
-  by-priorities e = rw (eq-eqb q prioritiesByte e)
+  pub ranks-known : isRanks q ≡ true → k ≡ ranked q k
+  ranks-known e = rw e
 
-  module _ (n : q ≡ prioritiesByte → ⊥) where
-    pub by-deadlines : q ≡ deadlinesByte → k ≡ ranked q k
-    by-deadlines e = rw (ne-eqb q prioritiesByte n, eq-eqb q deadlinesByte e)
-
-    pub ranks-unknown : (q ≡ deadlinesByte → ⊥)
-        → record { version = k .version; gate = k .gate; entries = k .entries; verdict = Refused badRanks }
-        ≡ ranked q k
-    ranks-unknown m = rw (ne-eqb q prioritiesByte n, ne-eqb q deadlinesByte m)
+  pub ranks-unknown : isRanks q ≡ false
+      → record { version = k .version; gate = k .gate; entries = k .entries; verdict = Refused badRanks } ≡ ranked q k
+  ranks-unknown e = rw e
 
 -- BY THE STAGE
 

@@ -11,7 +11,7 @@ use Rattle.rules.specs.Records.{Record, isVersion}
 use Rattle.rules.specs.Traces.{Seen}
 use Rattle.gate.specs.declared.Setup.{Setup}
 use Rattle.gate.specs.Shown.{table}
-use Rattle.layout.specs.Layout.{carriesTidy, carriesRanks, prioritiesByte, deadlinesByte}
+use Rattle.layout.specs.Layout.{carriesTidy, carriesRanks, deadlinesByte}
 use Rattle.trace_lines.specs.Lines.{dash, bits8, bits16, bits32, fitIn, allFit}
 
 -- LINE S
@@ -29,10 +29,6 @@ headFits vs = isVersion (getD vs 0 0) && fitIn (headWidths (getD vs 0 0)) vs
 -- R: 0 where the line has none
 abbrev pub ranksOf : List ℕ → ℕ
 ranksOf vs = getD vs 5 0
-
--- 0 priorities, 1 deadlines; any other is `refused 33`
-abbrev pub ranksKnown : ℕ → Bool
-ranksKnown r = eqb r prioritiesByte || eqb r deadlinesByte
 
 -- the setup before its tables; W is 0 where the line has none
 unfoldable pub headSetup : List ℕ → Setup

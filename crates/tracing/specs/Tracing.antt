@@ -9,6 +9,7 @@ use lib.ListN.{getD}
 use Rattle.rules.specs.Refusals.{badSize, badRanks}
 use Rattle.rules.specs.Traces.{Traced}
 use Rattle.gate.specs.declared.Setup.{Setup}
+use Rattle.layout.specs.Layout.{isRanks}
 use Rattle.checking.specs.declared.Verdict.{Verdict}
 use Rattle.checking.specs.declared.Verdict.the-variants.{Refused, Agrees, Differs}
 use Rattle.checking.specs.declared.Checker.{Checker}
@@ -18,7 +19,7 @@ use Rattle.tracing.specs.declared.Stage.{Stage}
 use Rattle.tracing.specs.declared.Stage.the-variants.{Head, Sizes, Rows, Entries, Malformed}
 use Rattle.tracing.specs.declared.Trace.{Trace}
 use Rattle.tracing.specs.Shapes.{headFits, headSetup, sizesFit, withSizes, rowFits, withRow, entryFits, eventIn}
-use Rattle.tracing.specs.Shapes.{ranksOf, ranksKnown, seenOf}
+use Rattle.tracing.specs.Shapes.{ranksOf, seenOf}
 
 -- the stage, how many lines and how many rows were read, R, the setup so far and the checker
 abbrev pub trace : Stage → ℕ → ℕ → ℕ → Setup → Checker → Trace
@@ -52,7 +53,7 @@ awaitsSizes (Differs i p) = Entries
 -- a checker of a setup whose R isn't known: `refused 33`, whatever else is wrong with its tables
 abbrev pub ranked : ℕ → Checker → Checker
 ranked q k =
-    cond (ranksKnown q) k
+    cond (isRanks q) k
     (record { version = k .version; gate = k .gate; entries = k .entries; verdict = Refused badRanks })
 
 module _ (t : Trace) where

@@ -22,8 +22,7 @@ use checking::check_sound;
 use checking::next_count;
 use checking::start;
 use gate::Setup;
-use layout::DEADLINES;
-use layout::PRIORITIES;
+use layout::is_ranks;
 use trace_lines::narrowed;
 ghost use mathlib.Core.Path.{_≡_};
 ghost use mathlib.Core.Bool.{true};
@@ -95,10 +94,7 @@ fn ranked(q: u8, k: Checker) -> Checker
     requires { ⌜ Going k ⌝ }
     ensures { λ r. ⌜ (r ≡ Tracing·ranked q k) × Going r ⌝ }
 {
-    if q == PRIORITIES {
-        return k;
-    }
-    if q == DEADLINES {
+    if is_ranks(q) {
         return k;
     }
     let g = k.gate;
