@@ -17,7 +17,7 @@ use Rattle.checking.specs.declared.Part.the-variants as part
 use Rattle.checking.specs.declared.Verdict.{Verdict}
 use Rattle.checking.specs.declared.Verdict.the-variants.{Refused, Agrees, Differs}
 use Rattle.checking.specs.declared.Checker.{Checker}
-use Rattle.checking.specs.Checking.{servedIn, verdictIn, firstVerdict, nextCount, enteredBy, heardBy, checked}
+use Rattle.checking.specs.Checking.{servedIn, verdictIn, firstVerdict, enteredBy, heardBy, checked}
 
 -- 22 before the setup's own
 pub first-verdicts :
@@ -30,12 +30,6 @@ pub first-verdicts :
     × (firstVerdict 1 1 ≡ Refused 1)
     × (firstVerdict 2 5 ≡ Refused 5)
 first-verdicts = (refl, refl, refl, refl, refl, refl, refl, refl)
-
-pub counts :
-    (nextCount 0 ≡ 1)
-    × (nextCount 18446744073709551614 ≡ 18446744073709551615)
-    × (nextCount 18446744073709551615 ≡ 18446744073709551615)
-counts = (refl, refl, refl)
 
 pub words :
     (servedIn Nobody ≡ none)

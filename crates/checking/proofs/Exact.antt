@@ -36,7 +36,8 @@ use Rattle.step.proofs.Shown.{step-shown}
 use Rattle.checking.specs.declared.Verdict.{Verdict}
 use Rattle.checking.specs.declared.Verdict.the-variants.{Refused, Agrees}
 use Rattle.checking.specs.declared.Checker.{Checker}
-use Rattle.checking.specs.Checking.{verdictIn, isAgreeing, maxCount, nextCount, verdictAt, shownBy}
+use Rattle.text.specs.Text.{maxCount, nextCount}
+use Rattle.checking.specs.Checking.{verdictIn, isAgreeing, verdictAt, shownBy}
 use Rattle.checking.specs.Checking.{begun, enteredBy, checked, fed}
 use Rattle.checking.proofs.Steps.{checked-on, fed-told}
 

@@ -30,7 +30,8 @@ use Rattle.step.proofs.Shown.{stays-sound}
 use Rattle.checking.specs.declared.Verdict.{Verdict}
 use Rattle.checking.specs.declared.Verdict.the-variants.{Refused, Agrees}
 use Rattle.checking.specs.declared.Checker.{Checker}
-use Rattle.checking.specs.Checking.{isAgreeing, firstVerdict, begun, nextCount, verdictAt, enteredBy}
+use Rattle.text.specs.Text.{nextCount}
+use Rattle.checking.specs.Checking.{isAgreeing, firstVerdict, begun, verdictAt, enteredBy}
 use Rattle.checking.specs.Checking.{heardBy, checked, fed, Going}
 
 -- THE START

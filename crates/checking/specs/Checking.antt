@@ -1,11 +1,11 @@
 -- A checker of traces: what it holds before the first entry, and what an entry makes of it.
 -- Assumes nothing.
-use Prim.Native.Nat.{ℕ, _+_}
+use Prim.Native.Nat.{ℕ}
 use mathlib.Core.Path.{_≡_}
 use mathlib.Core.Bool.{Bool, true, false, not, cond}
 use mathlib.Core.List.{List, [], _∷_}
 use mathlib.Core.Option.{Option, some, none}
-use lib.Dec.{eqb, ltb}
+use lib.Dec.{eqb}
 use lib.ListN.{take}
 use Rattle.rules.specs.Refusals.{accepted, badVersion}
 use Rattle.rules.specs.Setup.{setupAnswer}
@@ -13,6 +13,7 @@ use Rattle.rules.specs.Records.{Record, Heard, isVersion, heardOf}
 use Rattle.rules.specs.Replay.{inService}
 use Rattle.rules.specs.Traces as rules
 use Rattle.rules.specs.Traces.{Seen, Traced, theAnswer, theServed, theCharges, refused, agrees, differs, difference}
+use Rattle.text.specs.Text.{nextCount}
 use Rattle.gate.specs.declared.Setup.{Setup}
 use Rattle.gate.specs.Shown.{setupOf, serverOf}
 use Rattle.gate.specs.Made.{made}
@@ -68,13 +69,6 @@ abbrev pub isAgreeing : Verdict → Bool
 isAgreeing (Refused n) = false
 isAgreeing Agrees = true
 isAgreeing (Differs i p) = false
-
--- one more, of which 64 bits hold as many as anybody feeds; the last number stays
-abbrev pub maxCount : ℕ
-maxCount = 18446744073709551615
-
-abbrev pub nextCount : ℕ → ℕ
-nextCount n = cond (ltb n maxCount) (n + 1) n
 
 -- the verdict after entry i by what differs in it
 abbrev pub verdictAt : ℕ → Option rules.Part → Verdict

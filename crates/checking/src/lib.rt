@@ -10,12 +10,13 @@ use layout::is_version;
 use step::sound_heard;
 use step::step_heard;
 use text::least;
+use text::next_count;
 use text::wide16;
 ghost use mathlib.Core.Path.{_≡_};
 ghost use Rattle.rules.specs.Replay.{inService};
 ghost use Rattle.rules.specs.Traces.{sameServed, sameCharges, difference};
 ghost use Rattle.gate.specs.Shown.{serverOf};
-ghost use Rattle.checking.specs.Checking.{servedIn, seenIn, isAgreeing, firstVerdict, verdictAt, nextCount};
+ghost use Rattle.checking.specs.Checking.{servedIn, seenIn, isAgreeing, firstVerdict, verdictAt};
 ghost use Rattle.checking.specs.Checking.{begun, enteredBy, checked, Going};
 
 // The number of a refusal of its version.
@@ -92,13 +93,6 @@ pub fn is_agreeing(v: Verdict) -> bool
         Verdict::Agrees => true,
         Verdict::Differs(_, _) => false,
     }
-}
-
-// One more; the last number stays.
-pub fn next_count(n: u64) -> u64
-    ensures { λ r. ⌜ r ≡ nextCount n ⌝ }
-{
-    if n < u64::MAX { n + 1 } else { n }
 }
 
 fn same_served(says: Served, s: Server) -> bool

@@ -13,7 +13,8 @@ use Rattle.rules.specs.Traces.{Traced, Part, agrees, differs, traced, traceVerd
 use Rattle.rules.proofs.Theorems.{trace-exactly, trace-differs, trace-within}
 use Rattle.gate.specs.declared.Setup.{Setup}
 use Rattle.gate.specs.Shown.{setupOf}
-use Rattle.checking.specs.Checking.{verdictIn, maxCount, begun, fed}
+use Rattle.text.specs.Text.{maxCount}
+use Rattle.checking.specs.Checking.{verdictIn, begun, fed}
 use Rattle.checking.proofs.Exact.{fed-verdict}
 
 -- A trace of version v and its setup, as the code has it: L and W are numbers of 16 bits. (Nobody feeds 2^64 entries.)

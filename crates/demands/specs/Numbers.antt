@@ -5,7 +5,7 @@ use mathlib.Core.List.{List, [], _∷_}
 use Rattle.rules.specs.Refusals.{accepted, badClusters, noCap, manyClients, badSize, badRow, noClient}
 use Rattle.rules.specs.Refusals.{waitsAlready, serverIdle, runOfNone, runPastCap, notWaiting, bestEffort}
 use Rattle.rules.specs.Refusals.{spentAlready, unknownRecord, unsound, notTidying, logShort, badMark}
-use Rattle.rules.specs.Refusals.{badVersion, logCut, logLong, noRoom, badRanks, fieldOut, overPeriod, badLines}
+use Rattle.rules.specs.Refusals.{badVersion, logCut, logLong, noRoom, badLine, badRanks, fieldOut, overPeriod, badLines}
 
 -- 0, and 1 to 5
 abbrev pub ofSetup : List ℕ
@@ -30,6 +30,14 @@ ofWrittenSetup = badVersion ∷ noRoom ∷ ofSetup
 -- for a record: 0, 18, 22 and 25
 abbrev pub ofWrittenRecord : List ℕ
 ofWrittenRecord = accepted ∷ unknownRecord ∷ badVersion ∷ noRoom ∷ []
+
+-- of a log that is exported: its own, and 25
+abbrev pub ofExport : List ℕ
+ofExport = noRoom ∷ ofLog
+
+-- of a text that is imported: 29 before these
+abbrev pub ofImport : List ℕ
+ofImport = badLine ∷ ofExport
 
 -- 0, and 30 to 32
 abbrev pub ofOrder : List ℕ

@@ -28,14 +28,14 @@ module _ (separator : ℕ) where
   -- THE FIRST FIELD
 
   -- with no separator, it is the only one
-  last-field : (t : List ℕ) → fieldLength separator t ≡ length t → fields separator t ≡ t ∷ []
+  pub last-field : (t : List ℕ) → fieldLength separator t ≡ length t → fields separator t ≡ t ∷ []
   last-field [] e = refl
   last-field (b ∷ t) e =
       by-test (eqb b separator) (λ y. absurd (omega (arith, rw y at e)))
       (λ n. let k : suc (fieldLength separator t) ≡ suc (length t) = rw n at e in rw (n, last-field t (omega arith)))
 
   -- with one, others follow
-  field-then : (t : List ℕ) → fieldLength separator t < length t
+  pub field-then : (t : List ℕ) → fieldLength separator t < length t
       → fields separator t
       ≡ take (fieldLength separator t) t ∷ fields separator (drop (suc (fieldLength separator t)) t)
   field-then [] h = absurd (omega arith)

@@ -13,9 +13,9 @@ use Rattle.rules.specs.Quote.{Quote}
 use Rattle.rules.proofs.Tests.{by-test}
 use Rattle.order.specs.Orders.{asked}
 use Rattle.order.proofs.Asked.{too-long}
-use Rattle.text.specs.Text.{lf}
+use Rattle.text.specs.Text.{lf, cr}
 use Rattle.text.proofs.Firsts.{held-on}
-use Rattle.form.specs.Input.{cr, withoutCr, ended, behind, last, answers}
+use Rattle.form.specs.Input.{withoutCr, ended, behind, last, answers}
 use Rattle.form.specs.Output.{line, lines}
 use Rattle.form.specs.Parts.{roomBytes, heldAfter, output}
 

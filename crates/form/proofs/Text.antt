@@ -7,7 +7,8 @@ use mathlib.Core.List.{List}
 use lib.ListN.{length, getD, take}
 use lib.Seq.{take-take, getD-take, length-take-le}
 use borrow.Author.Tests.{eq-eqb, ne-eqb}
-use Rattle.form.specs.Input.{cr, withoutCr}
+use Rattle.text.specs.Text.{cr}
+use Rattle.form.specs.Input.{withoutCr}
 
 module _ (room : List ℕ) (k : ℕ) (fits : k ≤ length room) (some : 0 < k) where
   last-byte : getD (take k room) (length (take k room) - 1) 0 ≡ getD room (k - 1) 0

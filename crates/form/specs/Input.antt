@@ -7,11 +7,8 @@ use mathlib.Core.List.{List, [], _∷_, _++_, map}
 use lib.Dec.{eqb}
 use lib.ListN.{length, getD, take}
 use Rattle.rules.specs.Quote.{Quote}
-use Rattle.text.specs.Text.{lf}
+use Rattle.text.specs.Text.{lf, cr}
 use Rattle.order.specs.Orders.{asked}
-
-abbrev pub cr : ℕ
-cr = 13
 
 -- without its last byte, if that is a CR
 abbrev pub withoutCr : List ℕ → List ℕ

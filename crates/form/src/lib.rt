@@ -2,6 +2,7 @@
 mod line;
 
 use line::put_answer;
+use text::CR;
 use text::LF;
 use text::least;
 ghost use mathlib.Core.Path.{_≡_};
@@ -14,8 +15,6 @@ ghost use Rattle.order.specs.Orders.{asked};
 ghost use Rattle.form.specs.Input.{withoutCr};
 ghost use Rattle.form.specs.Output.{line, lineBytes};
 ghost use Rattle.form.specs.Parts.{roomBytes, noneHeld, standing, Answered, EndAnswered};
-
-const CR: u8 = 13;
 
 // The most bytes of a part.
 pub const PART: usize = 4096;

@@ -53,7 +53,7 @@ spelt-one : (n : ℕ) → n < 10 → spelt 0 (decimal n) ≡ some n
 spelt-one n h = rw (← decimal-digit n h) (spelt-digit 0 n h ∙ ap some (omega arith))
 
 -- what is written of n spells n (k only bounds it, and falls as n is divided)
-spelt-decimal : (k n : ℕ) → n ≤ k → n < 2 ^ 64 → spelt 0 (decimal n) ≡ some n
+pub spelt-decimal : (k n : ℕ) → n ≤ k → n < 2 ^ 64 → spelt 0 (decimal n) ≡ some n
 spelt-decimal zero n bound h = spelt-one n (omega arith)
 spelt-decimal (suc k) n bound h =
     by-test (ltb n 10) (λ y. spelt-one n (ltb-true n 10 y))

@@ -12,7 +12,8 @@ use Rattle.rules.specs.Quote.{orderOf, refusedQuote, quote}
 use Rattle.quote.proofs.Answers.{many-lines}
 use Rattle.fields.specs.Fields.{fields}
 use Rattle.numerals.specs.Numbers.{outOfRange, fieldOf}
-use Rattle.order.specs.Orders.{comma, values, everyThird, orderFrom, maxBytes, asked}
+use Rattle.text.specs.Text.{comma}
+use Rattle.order.specs.Orders.{values, everyThird, orderFrom, maxBytes, asked}
 use Rattle.order.specs.Steps.{maxFields}
 use Rattle.order.proofs.Columns.{length-column}
 

@@ -8,13 +8,11 @@ use lib.IntN.{ℤ}
 use lib.ListN.{length, getD, drop}
 use Rattle.rules.specs.Refusals.{badLines}
 use Rattle.rules.specs.Quote.{Order, Quote, refusedQuote, quote}
+use Rattle.text.specs.Text.{comma}
 use Rattle.fields.specs.Fields.{fields}
 use Rattle.numerals.specs.Numbers.{outOfRange, fieldOf}
 
 -- FIELDS
-
-abbrev pub comma : ℕ
-comma = 44
 
 -- The fields are separated by commas. (An empty line has one, which is empty: that is answered as no field is.)
 unfoldable pub values : List ℕ → List ℤ

@@ -3,17 +3,17 @@
 use numerals::field_value;
 use quote::Answer;
 use quote::MAX_LINES;
+use text::COMMA;
 ghost use mathlib.Core.Path.{_≡_};
 ghost use Prim.Native.Nat.{_≤_};
 ghost use lib.IntN.{pos};
 ghost use lib.ListN.{length, set};
 ghost use Rattle.rules.specs.Limits.{maxLines};
+ghost use Rattle.text.specs.Text.{comma};
 ghost use Rattle.fields.specs.Fields.{fields, Placed};
 ghost use Rattle.quote.specs.Told.{told};
-ghost use Rattle.order.specs.Orders.{comma, maxBytes, asked, values};
+ghost use Rattle.order.specs.Orders.{maxBytes, asked, values};
 ghost use Rattle.order.specs.Steps.{maxFields, inColumn, Column};
-
-const COMMA: u8 = 44;
 
 // The most bytes of an order.
 pub const MAX_BYTES: usize = 1023;

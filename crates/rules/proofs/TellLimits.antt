@@ -11,7 +11,8 @@ use Rattle.rules.specs.Limits.{unusedPlace, maxWork, maxPeriod, maxLines
 use Rattle.rules.specs.Refusals.{accepted, badClusters, noCap, manyClients, badSize, badRow, noClient}
 use Rattle.rules.specs.Refusals.{waitsAlready, serverIdle, runOfNone, runPastCap, notWaiting, bestEffort}
 use Rattle.rules.specs.Refusals.{spentAlready, unknownRecord, unsound, notTidying, logShort, badMark}
-use Rattle.rules.specs.Refusals.{badVersion, logCut, logLong, noRoom, badRanks, fieldOut, overPeriod, badLines}
+use Rattle.rules.specs.Refusals.{badVersion, logCut, logLong, noRoom, badLine, badRanks}
+use Rattle.rules.specs.Refusals.{fieldOut, overPeriod, badLines}
 use Rattle.rules.specs.Setup.{Setup, setupAnswer}
 use Rattle.rules.specs.Quote.{Order, orderOf, Quote, quote}
 use Rattle.rules.proofs.Table.{rt, be, given, Row}
@@ -27,10 +28,10 @@ limits-are = refl
 pub numbers-are :
     accepted ∷ badClusters ∷ noCap ∷ manyClients ∷ badSize ∷ badRow ∷ noClient ∷ waitsAlready ∷ serverIdle ∷
     runOfNone ∷ runPastCap ∷ notWaiting ∷ bestEffort ∷ spentAlready ∷ unknownRecord ∷ unsound ∷ notTidying ∷
-    logShort ∷ badMark ∷ badVersion ∷ logCut ∷ logLong ∷ noRoom ∷ badRanks ∷ fieldOut ∷ overPeriod ∷ badLines ∷
-    []
+    logShort ∷ badMark ∷ badVersion ∷ logCut ∷ logLong ∷ noRoom ∷ badLine ∷ badRanks ∷ fieldOut ∷
+    overPeriod ∷ badLines ∷ []
     ≡ 0 ∷ 1 ∷ 2 ∷ 3 ∷ 4 ∷ 5 ∷ 10 ∷ 11 ∷ 12 ∷ 13 ∷ 14 ∷ 15 ∷ 16 ∷ 17 ∷ 18 ∷ 19 ∷ 26 ∷ 20 ∷ 21 ∷ 22 ∷ 23 ∷ 24 ∷ 25 ∷
-    33 ∷ 30 ∷ 31 ∷ 32 ∷ []
+    29 ∷ 33 ∷ 30 ∷ 31 ∷ 32 ∷ []
 numbers-are = refl
 
 -- SETUPS

@@ -105,6 +105,12 @@ noRoom = 25
 abbrev pub badRanks : ℕ
 badRanks = 33
 
+-- OF A TEXT OF COMMA-SEPARATED LINES
+
+-- a line of a wrong form, an unknown version, a missing line or a number too wide
+abbrev pub badLine : ℕ
+badLine = 29
+
 -- OF AN ORDER
 
 -- a form field out of range

@@ -2,3 +2,5 @@
 pub mod Decimal
 pub mod Written
 pub mod Firsts
+pub mod Cases
+pub mod Held

@@ -9,7 +9,7 @@ use mathlib.Core.List.{List, [], _∷_, _++_, append-assoc, append-nil}
 use lib.ListN.{length, getD, take, drop, set, length-append, length-drop, take-append-drop}
 use lib.Seq.{drop-at, drop-cons, drop-drop, drop-append-add, take-at, take-suc, take-set-le, length-take-le}
 use lib.Seq.{set-at, set-split, append-snoc}
-use Rattle.text.specs.Text.{written, WroteAt}
+use Rattle.text.specs.Text.{written, WroteAt, Wrote}
 
 module _ (out s : List ℕ) (at : ℕ) (fits : at + length s ≤ length out) where
   abbrev front : List ℕ
@@ -125,3 +125,8 @@ wrote-ends {at} {text} {start} {out} {n} w h =
       length-take-le at start h,
       w .ends,
     )
+
+-- what was written from the start of a buffer on stands there
+pub wrote-stands : {text start out : List ℕ} {n : ℕ} → Wrote text start out n → take n out ≡ text
+wrote-stands {text} {start} {out} {n} w =
+    ap (take n) (w .bytes) ∙ take-at text (drop (0 + length text) start) n (omega (arith, w .ends))

@@ -16,6 +16,13 @@ lf = 10
 abbrev pub space : ℕ
 space = 32
 
+abbrev pub comma : ℕ
+comma = 44
+
+-- CR, before the LF of a line that ends in both
+abbrev pub cr : ℕ
+cr = 13
+
 -- the digits 0 to 9 are the bytes from this on
 abbrev pub firstDigit : ℕ
 firstDigit = 48
@@ -34,6 +41,27 @@ maxDigits = 20
 
 unfoldable pub decimal : ℕ → List ℕ
 decimal n = decimalIn maxDigits n
+
+-- WIDTHS, by the largest number of each
+
+abbrev pub bits8 : ℕ
+bits8 = 255
+
+abbrev pub bits16 : ℕ
+bits16 = 65535
+
+abbrev pub bits32 : ℕ
+bits32 = 4294967295
+
+-- COUNTS
+
+-- the largest number of 64 bits
+abbrev pub maxCount : ℕ
+maxCount = 18446744073709551615
+
+-- one more; the last number stays
+abbrev pub nextCount : ℕ → ℕ
+nextCount n = cond (ltb n maxCount) (n + 1) n
 
 -- WRITTEN INTO A BUFFER
 

@@ -2,20 +2,33 @@
 mod numbers;
 
 pub use numbers::least;
+pub use numbers::next_count;
 pub use numbers::wide;
 pub use numbers::wide_size;
 pub use numbers::wide16;
 pub use numbers::wide32;
-ghost use mathlib.Core.List.{_∷_, []};
+ghost use mathlib.Core.List.{_∷_, [], _++_};
 ghost use mathlib.Core.Path.{_≡_};
 ghost use Prim.Native.Nat.{_+_, _≤_, _<_};
-ghost use lib.ListN.{length};
+ghost use lib.ListN.{length, take};
 ghost use Rattle.text.specs.Text.{maxDigits, decimal, WroteAt};
 
 // What ends a line.
 pub const LF: u8 = 10;
 
 pub const SPACE: u8 = 32;
+
+pub const COMMA: u8 = 44;
+
+// What stands before the LF of a line that ends in both.
+pub const CR: u8 = 13;
+
+// The largest numbers of 8, 16 and 32 bits.
+pub const BITS_8: u64 = 255;
+
+pub const BITS_16: u64 = 65535;
+
+pub const BITS_32: u64 = 4294967295;
 
 // One byte at a place.
 pub fn put_byte(out: &mut [u8], at: usize, b: u8) -> usize
@@ -37,6 +50,17 @@ pub fn put_bytes(out: &mut [u8], at: usize, s: &[u8]) -> usize
         i += 1;
     }
     at + i
+}
+
+// More bytes behind the n that are held in a room, as many as have room; and how many are held then.
+pub fn hold(room: &mut [u8], n: usize, more: &[u8]) -> usize
+    requires { ⌜ n ≤ length (now room) ⌝ }
+    ensures { λ r. ⌜ r ≤ length (now (room .entry)) ⌝ }
+    ensures { λ r. ⌜ take r (now (room .exit))
+        ≡ take (length (now (room .entry))) (take n (now (room .entry)) ++ now (more .entry)) ⌝ }
+{
+    let k = least(more.len(), room.len() - n);
+    put_bytes(room, n, &more[..k])
 }
 
 // How many digits a number has.

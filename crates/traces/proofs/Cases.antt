@@ -1,4 +1,4 @@
--- Inputs, judgements and their lines, computed. Each text is written as its bytes, under what it is.
+-- What is held, judgements and their lines, computed. Each text is written as its bytes, under what it is.
 -- Assumes nothing.
 use Prim.Native.Nat.{ℕ}
 use mathlib.Core.Path.{_≡_, refl}
@@ -10,43 +10,27 @@ use Rattle.gate.specs.declared.Gate.{Gate}
 use Rattle.checking.specs.declared.Part.the-variants as part
 use Rattle.checking.specs.declared.Verdict.{Verdict}
 use Rattle.checking.specs.declared.Verdict.the-variants as verdict
-use Rattle.trace_lines.specs.Lines.{valuesOf}
+use Rattle.lines.specs.Lines.{valuesOf}
+use Rattle.items.specs.Items.{headFits}
 use Rattle.tracing.specs.declared.Stage.{Stage}
 use Rattle.tracing.specs.declared.Stage.the-variants as stage
 use Rattle.tracing.specs.declared.Trace.{Trace}
-use Rattle.tracing.specs.Shapes.{headFits}
 use Rattle.tracing.specs.Tracing.{trace, noneRead, taken}
 use Rattle.traces.specs.declared.Judgement.{Judgement}
 use Rattle.traces.specs.declared.Judgement.the-variants.{Malformed, Refused, Differs, Accepted}
-use Rattle.traces.specs.Reading.{readFrom, heldOf}
+use Rattle.traces.specs.Reading.{heldOf}
 use Rattle.traces.specs.Judgement.{closed, judgement, judgementText}
 
--- INPUTS
+-- WHAT IS HELD
 
 module _ (t : Trace) where
-  abbrev Reads : List ℕ → List ℕ → Trace → List ℕ → Type 0
-  Reads begun s after rest = readFrom t begun s ≡ record { trace = after; rest = rest }
-
-  -- nothing
-  -- a, and then b
-  -- a, and then b LF
-  -- LF LF c: two blank lines
-  -- a CR LF: the CR is a byte of the line
-  pub inputs :
-      Reads [] [] t []
-      × Reads (97 ∷ []) (98 ∷ []) t (97 ∷ 98 ∷ [])
-      × Reads (97 ∷ []) (98 ∷ 10 ∷ []) (taken t (97 ∷ 98 ∷ [])) []
-      × Reads [] (10 ∷ 10 ∷ 99 ∷ []) (taken (taken t []) []) (99 ∷ [])
-      × Reads [] (97 ∷ 13 ∷ 10 ∷ []) (taken t (97 ∷ 13 ∷ [])) []
-  inputs = (refl, refl, refl, refl, refl)
-
   -- two bytes with a zero behind them; 1,024 bytes; one byte more is not held
   pub holds :
-      (heldOf (record { trace = t; rest = 5 ∷ 6 ∷ [] }) .n ≡ 2)
-      × (take 3 (heldOf (record { trace = t; rest = 5 ∷ 6 ∷ [] }) .room) ≡ 5 ∷ 6 ∷ 0 ∷ [])
-      × (length (heldOf (record { trace = t; rest = 5 ∷ 6 ∷ [] }) .room) ≡ 1024)
-      × (heldOf (record { trace = t; rest = replicate 1024 5 }) .n ≡ 1024)
-      × (heldOf (record { trace = t; rest = replicate 1025 5 }) .n ≡ 1024)
+      (heldOf (record { state = t; rest = 5 ∷ 6 ∷ [] }) .n ≡ 2)
+      × (take 3 (heldOf (record { state = t; rest = 5 ∷ 6 ∷ [] }) .room) ≡ 5 ∷ 6 ∷ 0 ∷ [])
+      × (length (heldOf (record { state = t; rest = 5 ∷ 6 ∷ [] }) .room) ≡ 1024)
+      × (heldOf (record { state = t; rest = replicate 1024 5 }) .n ≡ 1024)
+      × (heldOf (record { state = t; rest = replicate 1025 5 }) .n ≡ 1024)
   holds = (refl, refl, refl, refl, refl)
 
 -- JUDGEMENTS

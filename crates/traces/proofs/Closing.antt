@@ -9,13 +9,14 @@ use lib.ListN.{length, take}
 use Rattle.rules.proofs.Tests.{clash}
 use Rattle.checking.specs.declared.Verdict.{Verdict}
 use Rattle.checking.specs.declared.Verdict.the-variants as verdict
+use Rattle.lines.specs.Input.{Read}
 use Rattle.tracing.specs.declared.Stage.{Stage}
 use Rattle.tracing.specs.declared.Stage.the-variants as stage
 use Rattle.tracing.specs.declared.Trace.{Trace}
 use Rattle.tracing.specs.Tracing.{decidedIn, isDecided}
 use Rattle.traces.specs.declared.Judgement.{Judgement}
 use Rattle.traces.specs.declared.Judgement.the-variants.{Accepted}
-use Rattle.traces.specs.Reading.{Read, roomBytes, heldOf}
+use Rattle.traces.specs.Reading.{roomBytes, heldOf}
 use Rattle.traces.specs.Judgement.{lacking, agreed, byStage, closed, closedOf, closedHeld}
 use Rattle.traces.proofs.Room.{held-begun}
 
@@ -37,9 +38,9 @@ agreed-held : (t : Trace) (s : List ℕ) → agreed t (take roomBytes s) ≡ agr
 agreed-held t [] = refl
 agreed-held t (b ∷ s) = refl
 
-pub closed-held : (r : Read) → closedHeld (heldOf r) ≡ closedOf r
+pub closed-held : (r : Read Trace) → closedHeld (heldOf r) ≡ closedOf r
 closed-held r =
-    let t = r .trace in
+    let t = r .state in
     ap (λ (s : List ℕ). closed t s) (held-begun r)
     ∙ ap (λ (j : Judgement). byStage (t .stage) (t .checker .verdict) t j) (agreed-held t (r .rest))
 

@@ -1,43 +1,18 @@
--- What is held of a line is enough: no more of it is looked at.
+-- The room: the bytes of a line that are held in it, and zeros behind them.
 -- Assumes nothing.
 use Prim.Native.Nat.{ℕ, _+_, _-_, _≤_}
 use native.Mathlib.Omega.{arith}
 use mathlib.Core.Path.{_≡_, refl, sym, ap, _∙_}
-use mathlib.Core.List.{List, [], _∷_, _++_}
-use lib.Dec.{eqb}
+use mathlib.Core.List.{List, _++_}
 use lib.ListN.{length, take, drop, replicate, length-replicate, replicate-append-replicate}
-use lib.Seq.{take-all, take-take, take-at, drop-at}
-use Rattle.rules.proofs.Tests.{by-test}
-use Rattle.text.specs.Text.{lf, Wrote}
+use lib.Seq.{take-all, take-at, drop-at}
+use Rattle.text.specs.Text.{Wrote}
+use Rattle.lines.specs.Input.{Read}
 use Rattle.tracing.specs.declared.Trace.{Trace}
-use Rattle.tracing.proofs.Lines.{held-enough}
-use Rattle.text.proofs.Firsts.{held-on}
-use Rattle.traces.specs.Reading.{Read, readFrom, roomBytes, roomWith, heldOf, begunIn}
-
--- what is held depends only on the first bytes of the line that has begun
-pub same-held : (t : Trace) (s u : List ℕ) → take roomBytes s ≡ take roomBytes u
-    → heldOf (record { trace = t; rest = s }) ≡ heldOf (record { trace = t; rest = u })
-same-held t s u e =
-    ap (λ (x : List ℕ). record { trace = t; room = roomWith x; n = length x }) e
-
-pub held-read : (t : Trace) (begun s : List ℕ)
-    → heldOf (readFrom t (take roomBytes begun) s) ≡ heldOf (readFrom t begun s)
-held-read t begun [] =
-    same-held t (take roomBytes begun) begun (take-take roomBytes roomBytes begun (omega arith))
-held-read t begun (b ∷ s) =
-    by-test (eqb b lf)
-    (λ y. rw y (ap (λ (u : Trace). heldOf (readFrom u [] s)) (held-enough t begun)))
-    (λ n. let more = b ∷ [] in
-    rw n (
-    sym (held-read t (take roomBytes begun ++ more) s)
-    ∙ ap (λ (u : List ℕ). heldOf (readFrom t u s)) (held-on roomBytes begun more)
-    ∙ held-read t (begun ++ more) s
-    ))
-
--- THE ROOM
+use Rattle.traces.specs.Reading.{roomBytes, roomWith, stored, heldOf, begunIn}
 
 -- the bytes of a line that are held
-pub held-begun : (r : Read) → begunIn (heldOf r) ≡ take roomBytes (r .rest)
+pub held-begun : (r : Read Trace) → begunIn (heldOf r) ≡ take roomBytes (r .rest)
 held-begun r =
     let s = take roomBytes (r .rest) in take-at s (replicate (roomBytes - length s) 0) (length s) refl
 
@@ -51,7 +26,7 @@ drop-replicate b n k h =
 -- a room of zeros with the bytes of a line written over them
 pub in-room : (t : Trace) (s : List ℕ) {fresh : List ℕ} {end : ℕ} (n : ℕ) → length s ≡ n → n ≤ roomBytes
     → Wrote s (replicate roomBytes 0) fresh end
-    → record { trace = t; room = fresh; n = n } ≡ heldOf (record { trace = t; rest = s })
+    → record { trace = t; room = fresh; n = n } ≡ heldOf (record { state = t; rest = s })
 in-room t s {fresh} {end} n long few w =
     let all : take roomBytes s ≡ s = take-all roomBytes s (omega arith) in
     let start : 0 + length s ≡ length s = omega arith in
@@ -61,4 +36,4 @@ in-room t s {fresh} {end} n long few w =
     ∙ ap (λ (x : List ℕ). s ++ x) (drop-replicate 0 (length s) roomBytes (omega arith)) in
     ap (λ (x : List ℕ). record { trace = t; room = x; n = n }) same
     ∙ ap (λ (k : ℕ). record { trace = t; room = roomWith s; n = k }) (sym long)
-    ∙ ap (λ (x : List ℕ). record { trace = t; room = roomWith x; n = length x }) (sym all)
+    ∙ ap (λ (x : List ℕ). stored (record { state = t; rest = x })) (sym all)

@@ -2,20 +2,20 @@
 -- Assumes nothing.
 use Prim.Native.Nat.{ℕ}
 use mathlib.Core.List.{List, [], _∷_, _++_}
-use Rattle.text.specs.Text.{lf, space, decimal}
+use Rattle.text.specs.Text.{lf, space, decimal, nextCount}
 use Rattle.checking.specs.declared.Part.{Part}
 use Rattle.checking.specs.declared.Part.the-variants as part
 use Rattle.checking.specs.declared.Verdict.{Verdict}
 use Rattle.checking.specs.declared.Verdict.the-variants as verdict
-use Rattle.checking.specs.Checking.{nextCount}
+use Rattle.lines.specs.Input.{Read, readFrom}
 use Rattle.tracing.specs.declared.Stage.{Stage}
 use Rattle.tracing.specs.declared.Stage.the-variants as stage
 use Rattle.tracing.specs.declared.Trace.{Trace}
-use Rattle.tracing.specs.Tracing.{noneRead}
+use Rattle.tracing.specs.Tracing.{noneRead, taken}
 use Rattle.traces.specs.declared.Held.{Held}
 use Rattle.traces.specs.declared.Judgement.{Judgement}
 use Rattle.traces.specs.declared.Judgement.the-variants.{Malformed, Refused, Differs, Accepted}
-use Rattle.traces.specs.Reading.{Read, readFrom, begunIn}
+use Rattle.traces.specs.Reading.{begunIn}
 
 -- WHAT IS JUDGED
 
@@ -46,8 +46,8 @@ byStage stage.Malformed v t j = Malformed (t .lines)
 abbrev pub closed : Trace → List ℕ → Judgement
 closed t rest = byStage (t .stage) (t .checker .verdict) t (agreed t rest)
 
-abbrev pub closedOf : Read → Judgement
-closedOf r = closed (r .trace) (r .rest)
+abbrev pub closedOf : Read Trace → Judgement
+closedOf r = closed (r .state) (r .rest)
 
 -- by what is held of an input that has ended
 abbrev pub closedHeld : Held → Judgement
@@ -55,7 +55,7 @@ closedHeld h = closed (h .trace) (begunIn h)
 
 -- a whole input
 abbrev pub judgement : List ℕ → Judgement
-judgement s = closedOf (readFrom noneRead [] s)
+judgement s = closedOf (readFrom taken noneRead [] s)
 
 -- THE LINE THAT TELLS IT
 

@@ -4,7 +4,7 @@ use crate::Judgement;
 use crate::LINE;
 use checking::Part;
 use checking::Verdict;
-use checking::next_count;
+use text::next_count;
 use text::put_bytes;
 use text::put_number;
 use tracing::Stage;

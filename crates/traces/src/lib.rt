@@ -15,7 +15,7 @@ ghost use Rattle.traces.specs.Reading.{noneHeld};
 pub const PART: usize = 4096;
 
 // Room for a line of the most bytes, and one byte more: of what is longer no more need be held to be malformed.
-const ROOM: usize = trace_lines::MAX_LINE + 1;
+const ROOM: usize = lines::MAX_LINE + 1;
 
 // Room for the line of any judgement.
 pub const LINE: usize = 64;

@@ -14,11 +14,11 @@ use Rattle.numerals.specs.Plain.{plainOf}
 use Rattle.checking.specs.declared.Verdict.{Verdict}
 use Rattle.checking.specs.declared.Verdict.the-variants.{Refused, Agrees}
 use Rattle.checking.specs.Checking.{begun}
-use Rattle.trace_lines.specs.Lines.{dash, valuesOf, fitIn, allFit}
+use Rattle.lines.specs.Lines.{dash, valuesOf, fitIn, allFit}
+use Rattle.items.specs.Items.{headFits, rowForm}
 use Rattle.tracing.specs.declared.Stage.{Stage}
 use Rattle.tracing.specs.declared.Stage.the-variants.{Head, Sizes, Rows, Entries, Malformed}
-use Rattle.tracing.specs.Shapes.{headFits, headSetup, withSizes, withRow, rowFits, entryFits, eventIn}
-use Rattle.tracing.specs.Shapes.{seenOf}
+use Rattle.tracing.specs.Shapes.{headSetup, withSizes, withRow, entryFits, eventIn, seenOf}
 use Rattle.tracing.specs.Tracing.{noneRead, taken, takenAll}
 
 -- THE NUMBERS OF EACH KIND OF LINE
@@ -90,12 +90,12 @@ timed-entries = (refl, refl, refl, refl, refl, refl, refl, refl, refl, refl, ref
 
 -- KIND CLUSTER PRIORITY
 pub rows :
-    (rowFits (255 ∷ 255 ∷ 65535 ∷ []) ≡ true)
-    × (rowFits (0 ∷ 0 ∷ []) ≡ false)
-    × (rowFits (0 ∷ 0 ∷ 0 ∷ 0 ∷ []) ≡ false)
-    × (rowFits (256 ∷ 0 ∷ 0 ∷ []) ≡ false)
-    × (rowFits (0 ∷ 256 ∷ 0 ∷ []) ≡ false)
-    × (rowFits (0 ∷ 0 ∷ 65536 ∷ []) ≡ false)
+    (fitIn rowForm (255 ∷ 255 ∷ 65535 ∷ []) ≡ true)
+    × (fitIn rowForm (0 ∷ 0 ∷ []) ≡ false)
+    × (fitIn rowForm (0 ∷ 0 ∷ 0 ∷ 0 ∷ []) ≡ false)
+    × (fitIn rowForm (256 ∷ 0 ∷ 0 ∷ []) ≡ false)
+    × (fitIn rowForm (0 ∷ 256 ∷ 0 ∷ []) ≡ false)
+    × (fitIn rowForm (0 ∷ 0 ∷ 65536 ∷ []) ≡ false)
 unfolding fitIn
 rows = (refl, refl, refl, refl, refl, refl)
 

@@ -7,10 +7,12 @@ use mathlib.Core.Bool.{Bool, true, false, not}
 use mathlib.Core.List.{List, [], _∷_, map}
 use Rattle.rules.proofs.Tests.{by-test}
 use Rattle.gate.specs.declared.Setup.{Setup}
+use Rattle.text.specs.Text.{space}
 use Rattle.checking.specs.declared.Checker.{Checker}
-use Rattle.checking.specs.Checking.{isAgreeing, nextCount, checked, fed}
+use Rattle.text.specs.Text.{nextCount}
+use Rattle.checking.specs.Checking.{isAgreeing, checked, fed}
 use Rattle.checking.proofs.Steps.{checked-told, checked-version}
-use Rattle.trace_lines.specs.Lines.{valuesOf}
+use Rattle.lines.specs.Lines.{valuesOf}
 use Rattle.tracing.specs.declared.Stage.the-variants.{Entries}
 use Rattle.tracing.specs.declared.Trace.{Trace}
 use Rattle.tracing.specs.Shapes.{entryFits, eventIn, seenOf}
@@ -23,7 +25,7 @@ module _ (v r q : ℕ) (s : Setup) where
 
   -- one line: it is counted while the trace agrees
   entry-taken : (n : ℕ) (k : Checker) (l : List ℕ) → k .version ≡ v → isAgreeing (k .verdict) ≡ true
-      → entryFits v (valuesOf 69 l) ≡ true
+      → entryFits v (valuesOf 69 space l) ≡ true
       → taken (at n k) l ≡ at (nextCount n) (checked k (tracedIn v l .event) (tracedIn v l .seen))
   entry-taken n k l w e f = let d : not (isAgreeing (k .verdict)) ≡ false = ap not e in
       taken-on (at n k) l d ∙ rw (w, f)

@@ -2,71 +2,35 @@
 -- Assumes nothing.
 use Prim.Native.Nat.{ℕ, zero, suc, _+_, _≤_, _<_}
 use native.Mathlib.Omega.{arith}
-use mathlib.Core.Path.{_≡_, refl, sym, ap, _∙_}
+use mathlib.Core.Path.{_≡_, sym, ap, _∙_}
 use mathlib.Core.Bool.{Bool, true, false, _&&_, _||_, cond}
 use mathlib.Core.List.{List, [], _∷_}
 use lib.Dec.{eqb, leb}
 use lib.ListN.{length, getD, take, replicate}
 use lib.Seq.{getD-take}
 use borrow.Author.Tests.{leb-true, eqb-true, lt-leb, le-leb}
-use Rattle.rules.specs.Records.{newest, isVersion}
-use Rattle.rules.proofs.Tests.{clash, both-true, either-true}
-use Rattle.layout.specs.Layout.{carriesTidy, carriesRanks}
-use Rattle.trace_lines.specs.Lines.{dash, bits8, bits16, bits32, fitIn}
-use Rattle.tracing.specs.Shapes.{headWidths, headFits, sizesFit, rowFits}
+use Rattle.rules.proofs.Tests.{both-true, either-true}
+use Rattle.layout.specs.Layout.{carriesRanks}
+use Rattle.text.specs.Text.{bits8, bits16, bits32}
+use Rattle.lines.specs.Lines.{dash, fitIn}
+use Rattle.lines.proofs.Widths.{fit-at}
+use Rattle.items.specs.Items.{headFits, sizesForm, rowForm}
+use Rattle.items.proofs.Fits.{head-at}
 use Rattle.tracing.specs.Shapes.{entryWidths, servedAt, chargesAt, entryBegins}
 use Rattle.tracing.specs.Shapes.{HeadNumbers, RowNumbers, EntryNumbers}
 
-fit-at : (ws vs : List ℕ) → fitIn ws vs ≡ true → (j : ℕ) → getD vs j 0 ≤ getD ws j 0
-unfolding fitIn
-fit-at [] [] e j = omega arith
-fit-at [] (v ∷ vs) e j = clash e refl
-fit-at (w ∷ ws) [] e j = omega arith
-fit-at (w ∷ ws) (v ∷ vs) e zero = leb-true v w (both-true (leb v w) (fitIn ws vs) e .0)
-fit-at (w ∷ ws) (v ∷ vs) e (suc j) = fit-at ws vs (both-true (leb v w) (fitIn ws vs) e .1) j
-
 -- LINE S
 
-module _ (vs : List ℕ) where
-  abbrev version : ℕ
-  version = getD vs 0 0
-
-  pub head-unknown : isVersion version ≡ false → headFits vs ≡ false
-  unfolding headFits
-  head-unknown e = rw e
-
-  pub head-too-wide : bits16 < version → headFits vs ≡ false
-  head-too-wide h = head-unknown (rw (lt-leb version newest (omega arith)) (either-way (leb 1 version)))
-    where
-      either-way : (b : Bool) → b && false ≡ false
-      either-way true = refl
-      either-way false = refl
-
-  pub head-known : isVersion version ≡ true → headFits vs ≡ fitIn (headWidths version) vs
-  unfolding headFits
-  head-known e = rw e
-
--- W and R, by whether the version carries ranks and W
-behind-cap : (a b : Bool)
-    → let ws = bits16 ∷ bits8 ∷ bits8 ∷ bits16 ∷ cond a (bits16 ∷ bits8 ∷ []) (cond b (bits16 ∷ []) []) in
-    (getD ws 4 0 ≤ bits16) × (getD ws 5 0 ≤ bits8)
-behind-cap true b = (omega arith, omega arith)
-behind-cap false true = (omega arith, omega arith)
-behind-cap false false = (omega arith, omega arith)
-
 pub head-numbers : (vs : List ℕ) → headFits vs ≡ true → HeadNumbers vs
-unfolding headFits
 head-numbers vs e =
-    let v = getD vs 0 0 in
-    let fits = fit-at (headWidths v) vs (both-true (isVersion v) (fitIn (headWidths v) vs) e .1) in
-    let behind = behind-cap (carriesRanks v) (carriesTidy v) in
+    let fits = head-at vs e in
     record {
       version = fits 0;
       clusters = fits 1;
       clients = fits 2;
       cap = fits 3;
-      tidy = omega (arith, fits 4, behind .0);
-      ranks = omega (arith, fits 5, behind .1);
+      tidy = fits 4;
+      ranks = fits 5;
     }
 
 -- LINE Z
@@ -76,19 +40,14 @@ repeated zero j w = omega arith
 repeated (suc k) zero w = omega arith
 repeated (suc k) (suc j) w = repeated k j w
 
-pub first-repeated : (k n w : ℕ) → k ≤ n → take k (replicate n w) ≡ replicate k w
-first-repeated zero n w h = refl
-first-repeated (suc k) zero w h = absurd (omega arith)
-first-repeated (suc k) (suc n) w h = ap (λ (l : List ℕ). w ∷ l) (first-repeated k n w (omega arith))
-
-pub size-numbers : (k : ℕ) (vs : List ℕ) → sizesFit k vs ≡ true → (j : ℕ) → getD vs j 0 ≤ bits8
-size-numbers k vs e j = omega (arith, fit-at (replicate k bits8) vs e j, repeated k j bits8)
+pub size-numbers : (k : ℕ) (vs : List ℕ) → fitIn (sizesForm k) vs ≡ true → (j : ℕ) → getD vs j 0 ≤ bits8
+size-numbers k vs e j = omega (arith, fit-at (sizesForm k) vs e j, repeated k j bits8)
 
 -- LINES C
 
-pub row-numbers : (vs : List ℕ) → rowFits vs ≡ true → RowNumbers vs
+pub row-numbers : (vs : List ℕ) → fitIn rowForm vs ≡ true → RowNumbers vs
 row-numbers vs e =
-    let fits = fit-at (bits8 ∷ bits8 ∷ bits16 ∷ []) vs e in
+    let fits = fit-at rowForm vs e in
     record { kind = fits 0; cluster = fits 1; priority = fits 2 }
 
 -- LINES E

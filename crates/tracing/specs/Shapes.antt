@@ -1,4 +1,5 @@
--- The lines of a trace by their numbers: when each kind fits, and the setup or entry that they say.
+-- The lines of a trace by their numbers: the setup or entry that they say, and when an entry fits. The lines S, Z and C
+-- have the numbers of a log's items (`items`: `headFits`, `sizesForm`, `rowForm`).
 -- Assumes nothing.
 use Prim.Native.Nat.{ℕ, _+_, _≤_}
 use mathlib.Core.Bool.{Bool, _&&_, _||_, cond}
@@ -7,24 +8,15 @@ use mathlib.Core.Option.{Option, some, none}
 use lib.Dec.{eqb, leb}
 use lib.ListN.{length, getD, take, drop, set, replicate}
 use Rattle.rules.specs.Limits.{maxClusters, maxClients}
-use Rattle.rules.specs.Records.{Record, isVersion}
+use Rattle.rules.specs.Records.{Record}
 use Rattle.rules.specs.Traces.{Seen}
 use Rattle.gate.specs.declared.Setup.{Setup}
 use Rattle.gate.specs.Shown.{table}
-use Rattle.layout.specs.Layout.{carriesTidy, carriesRanks, deadlinesByte}
-use Rattle.trace_lines.specs.Lines.{dash, bits8, bits16, bits32, fitIn, allFit}
+use Rattle.layout.specs.Layout.{carriesRanks, deadlinesByte}
+use Rattle.text.specs.Text.{bits8, bits16, bits32}
+use Rattle.lines.specs.Lines.{dash, fitIn, allFit}
 
--- LINE S
-
--- VERSION K N L, and behind them W and R where logs of that version carry them
-abbrev pub headWidths : ℕ → List ℕ
-headWidths v =
-    bits16 ∷ bits8 ∷ bits8 ∷ bits16
-    ∷ cond (carriesRanks v) (bits16 ∷ bits8 ∷ []) (cond (carriesTidy v) (bits16 ∷ []) [])
-
--- A version that isn't known makes it malformed.
-unfoldable pub headFits : List ℕ → Bool
-headFits vs = isVersion (getD vs 0 0) && fitIn (headWidths (getD vs 0 0)) vs
+-- LINE S: VERSION K N L, and behind them W and R where logs of that version carry them
 
 -- R: 0 where the line has none
 abbrev pub ranksOf : List ℕ → ℕ
@@ -44,11 +36,7 @@ headSetup vs = record {
   priorities = replicate maxClients 0;
 }
 
--- LINE Z
-
--- K sizes
-abbrev pub sizesFit : ℕ → List ℕ → Bool
-sizesFit k vs = fitIn (replicate k bits8) vs
+-- LINE Z: K sizes
 
 unfoldable pub withSizes : List ℕ → Setup → Setup
 withSizes vs s = record {
@@ -63,11 +51,7 @@ withSizes vs s = record {
   priorities = s .priorities;
 }
 
--- LINES C
-
--- KIND CLUSTER PRIORITY
-abbrev pub rowFits : List ℕ → Bool
-rowFits vs = fitIn (bits8 ∷ bits8 ∷ bits16 ∷ []) vs
+-- LINES C: KIND CLUSTER PRIORITY
 
 -- the row of client c
 unfoldable pub withRow : ℕ → List ℕ → Setup → Setup

@@ -9,17 +9,18 @@ use lib.ListN.{getD}
 use Rattle.rules.specs.Refusals.{badSize, badRanks}
 use Rattle.rules.specs.Traces.{Traced}
 use Rattle.gate.specs.declared.Setup.{Setup}
+use Rattle.text.specs.Text.{space, nextCount}
 use Rattle.layout.specs.Layout.{isRanks}
 use Rattle.checking.specs.declared.Verdict.{Verdict}
 use Rattle.checking.specs.declared.Verdict.the-variants.{Refused, Agrees, Differs}
 use Rattle.checking.specs.declared.Checker.{Checker}
-use Rattle.checking.specs.Checking.{begun, isAgreeing, nextCount, checked}
-use Rattle.trace_lines.specs.Lines.{valuesOf}
+use Rattle.checking.specs.Checking.{begun, isAgreeing, checked}
+use Rattle.lines.specs.Lines.{valuesOf, fitIn}
+use Rattle.items.specs.Items.{headFits, sizesForm, rowForm}
 use Rattle.tracing.specs.declared.Stage.{Stage}
 use Rattle.tracing.specs.declared.Stage.the-variants.{Head, Sizes, Rows, Entries, Malformed}
 use Rattle.tracing.specs.declared.Trace.{Trace}
-use Rattle.tracing.specs.Shapes.{headFits, headSetup, sizesFit, withSizes, rowFits, withRow, entryFits, eventIn}
-use Rattle.tracing.specs.Shapes.{ranksOf, seenOf}
+use Rattle.tracing.specs.Shapes.{ranksOf, headSetup, withSizes, withRow, entryFits, eventIn, seenOf}
 
 -- the stage, how many lines and how many rows were read, R, the setup so far and the checker
 abbrev pub trace : Stage → ℕ → ℕ → ℕ → Setup → Checker → Trace
@@ -100,8 +101,8 @@ letterOf Malformed = 0
 -- and what its numbers say
 abbrev pub takenIn : Stage → Trace → List ℕ → Trace
 takenIn Head t = by headFits (headed t) (malformed t)
-takenIn Sizes t = by (sizesFit (t .setup .clusters)) (sized t) (malformed t)
-takenIn Rows t = by rowFits (rowed t) (malformed t)
+takenIn Sizes t = by (fitIn (sizesForm (t .setup .clusters))) (sized t) (malformed t)
+takenIn Rows t = by (fitIn rowForm) (rowed t) (malformed t)
 takenIn Entries t = by (entryFits (t .checker .version)) (entered t) (malformed t)
 takenIn Malformed t = λ vs. t
 
@@ -109,7 +110,7 @@ abbrev pub counted : Trace → Trace
 counted t = trace (t .stage) (nextCount (t .lines)) (t .rows) (t .ranks) (t .setup) (t .checker)
 
 unfoldable pub taken : Trace → List ℕ → Trace
-taken t l = cond (isDecided t) t (takenIn (t .stage) (counted t) (valuesOf (letterOf (t .stage)) l))
+taken t l = cond (isDecided t) t (takenIn (t .stage) (counted t) (valuesOf (letterOf (t .stage)) space l))
 
 -- ALL LINES, one after the other
 
@@ -120,9 +121,9 @@ takenAll t (l ∷ ls) = takenAll (taken t l) ls
 module _ (v : ℕ) where
   -- the entry that a line E says in a trace of version v
   abbrev pub tracedIn : List ℕ → Traced
-  tracedIn l = let vs = valuesOf (letterOf Entries) l in record { event = eventIn v vs; seen = seenOf v vs }
+  tracedIn l = let vs = valuesOf (letterOf Entries) space l in record { event = eventIn v vs; seen = seenOf v vs }
 
   -- each of the lines is a well formed entry
   abbrev pub AllEntries : List (List ℕ) → Type 0
   AllEntries [] = Unit {0}
-  AllEntries (l ∷ ls) = (entryFits v (valuesOf (letterOf Entries) l) ≡ true) × AllEntries ls
+  AllEntries (l ∷ ls) = (entryFits v (valuesOf (letterOf Entries) space l) ≡ true) × AllEntries ls

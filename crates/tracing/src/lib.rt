@@ -4,14 +4,15 @@ mod stages;
 
 use checking::Checker;
 use checking::is_agreeing;
-use checking::next_count;
 use checking::start;
 use gate::Setup;
+use lines::MOST;
+use lines::values_of;
 use shapes::head_setup;
 use stages::letter;
 use stages::line_taken;
-use trace_lines::MOST;
-use trace_lines::values_of;
+use text::SPACE;
+use text::next_count;
 ghost use mathlib.Core.Path.{_≡_};
 ghost use Prim.Native.Nat.{_≤_};
 ghost use lib.ListN.{length, take};
@@ -94,6 +95,6 @@ pub fn take_line(t: Trace, line: &[u8], v: &mut [u64; MOST], charges: &mut [u32;
     let stage = t.stage;
     let mut next = t;
     next.lines = next_count(t.lines);
-    let n = values_of(line, letter(stage), v);
+    let n = values_of(line, letter(stage), SPACE, v);
     first_taken(stage, next, v, n, charges)
 }

@@ -1,28 +1,29 @@
-// The lines of a trace by their numbers: whether each kind fits, and the setup or entry that they say.
+// The lines of a trace by their numbers: whether they fit, and the setup or entry that they say.
 
 use checking::Served;
 use gate::Client;
 use gate::Gate;
 use gate::Setup;
+use items::row_form;
+use items::sizes_all;
 use layout::DEADLINES;
 use layout::carries_ranks;
-use layout::carries_tidy;
-use layout::is_version;
-use trace_lines::BITS_8;
-use trace_lines::BITS_16;
-use trace_lines::BITS_32;
-use trace_lines::NOBODY;
-use trace_lines::fit;
+use lines::NOBODY;
+use lines::fit;
+use text::BITS_8;
+use text::BITS_16;
+use text::BITS_32;
 ghost use mathlib.Core.Path.{_≡_};
 ghost use Prim.Native.Nat.{ℕ, _≤_, _<_};
 ghost use lib.ListN.{getD};
 ghost use Rattle.rules.specs.Limits.{maxClusters};
 ghost use Rattle.gate.specs.Shown.{table};
 ghost use Rattle.checking.specs.Checking.{servedIn};
-ghost use Rattle.trace_lines.specs.Lines.{bits8, bits16, bits32, dash, fitIn};
-ghost use Rattle.tracing.specs.Shapes.{headFits, headSetup, HeadNumbers, sizesFit, withSizes, rowFits, withRow};
-ghost use Rattle.tracing.specs.Shapes.{headWidths, ranksOf, RowNumbers, entryWidths, answerAt, entryBegins};
-ghost use Rattle.tracing.specs.Shapes.{deadlineIn, servedOf};
+ghost use Rattle.text.specs.Text.{bits8, bits16, bits32};
+ghost use Rattle.lines.specs.Lines.{dash, fitIn};
+ghost use Rattle.items.specs.Items.{sizesForm, rowForm};
+ghost use Rattle.tracing.specs.Shapes.{ranksOf, headSetup, HeadNumbers, withSizes, withRow, RowNumbers};
+ghost use Rattle.tracing.specs.Shapes.{entryWidths, answerAt, entryBegins, deadlineIn, servedOf};
 
 // The number at a place, 0 where there is none.
 pub fn value_at(vs: &[u64], i: usize) -> u64
@@ -54,36 +55,6 @@ fn double(x: u64) -> u32
 
 // LINE S
 
-pub fn head_fits(vs: &[u64]) -> bool
-    ensures { λ r. ⌜ r ≡ headFits (now (vs .entry)) ⌝ }
-{
-    let x = value_at(vs, 0);
-    if BITS_16 < x {
-        return false;
-    }
-    let version = word(x);
-    if !is_version(version) {
-        return false;
-    }
-    numbers_fit(version, vs)
-}
-
-// Whether the numbers are those that the version carries.
-fn numbers_fit(version: u16, vs: &[u64]) -> bool
-    ensures { λ r. ⌜ r ≡ fitIn (headWidths version) (now (vs .entry)) ⌝ }
-{
-    if carries_ranks(version) {
-        let widths = [BITS_16, BITS_8, BITS_8, BITS_16, BITS_16, BITS_8];
-        return fit(&widths, vs);
-    }
-    if carries_tidy(version) {
-        let widths = [BITS_16, BITS_8, BITS_8, BITS_16, BITS_16];
-        return fit(&widths, vs);
-    }
-    let widths = [BITS_16, BITS_8, BITS_8, BITS_16];
-    fit(&widths, vs)
-}
-
 // R: 0 where the line has none.
 pub fn ranks_in(vs: &[u64]) -> u8
     requires { ⌜ ranksOf (now vs) ≤ bits8 ⌝ }
@@ -113,11 +84,11 @@ pub fn head_setup(vs: &[u64]) -> Setup
 // LINE Z
 
 pub fn sizes_fit(k: u8, vs: &[u64]) -> bool
-    ensures { λ r. ⌜ r ≡ sizesFit k (now (vs .entry)) ⌝ }
+    ensures { λ r. ⌜ r ≡ fitIn (sizesForm k) (now (vs .entry)) ⌝ }
 {
-    let widths = [BITS_8; 256];
+    let all = sizes_all();
     let n = gate::wide(k);
-    fit(&widths[..n], vs)
+    fit(&all[..n], vs)
 }
 
 fn sizes_in(vs: &[u64]) -> [u8; 8]
@@ -157,10 +128,10 @@ pub fn with_sizes(s: Setup, vs: &[u64]) -> Setup
 // LINES C
 
 pub fn row_fits(vs: &[u64]) -> bool
-    ensures { λ r. ⌜ r ≡ rowFits (now (vs .entry)) ⌝ }
+    ensures { λ r. ⌜ r ≡ fitIn rowForm (now (vs .entry)) ⌝ }
 {
-    let widths = [BITS_8, BITS_8, BITS_16];
-    fit(&widths, vs)
+    let form = row_form();
+    fit(&form, vs)
 }
 
 // The setup with the row of client c, if there is a place for it.

@@ -8,7 +8,8 @@ use lib.ListN.{length}
 use mir.Facts.{toZ-ofZ}
 use Rattle.fields.proofs.Placed.{Reading, starting, reading-on, all-placed}
 use Rattle.numerals.specs.Numbers.{fieldOf}
-use Rattle.order.specs.Orders.{comma, values}
+use Rattle.text.specs.Text.{comma}
+use Rattle.order.specs.Orders.{values}
 use Rattle.order.proofs.read_fields.Statement.{statement}
 use Rattle.order.proofs.read_fields.Tie as tie
 

@@ -4,7 +4,8 @@ use native.Mathlib.Omega.{arith}
 use mathlib.Core.Path.{sym, ap, ap₂, _∙_}
 use Prim.Native.Nat.{ℕ, _≤_}
 use lib.ListN.{length, length-take}
-use Rattle.trace_lines.specs.Lines.{valuesOf}
+use Rattle.text.specs.Text.{space}
+use Rattle.lines.specs.Lines.{valuesOf}
 use Rattle.tracing.specs.declared.Trace.{Trace}
 use Rattle.tracing.specs.Tracing.{trace, takenIn}
 use Rattle.tracing.proofs.Lines.{decided-stays, taken-on}
@@ -34,7 +35,7 @@ first-taken-requires : tie.Need-first-taken-requires
 first-taken-requires c κs =
     let n = c .before .before .before .values-of in
     let s = c .before .before .before .before .before .before .before .before .before .before in
-    let v = n .last .1 .1 .0 in
+    let v = n .last .1 .1 .1 .0 in
     let few : n .result ≤ length v
     = omega (arith, length-take (n .result) v, ap length (n .ensures .1), n .ensures .0) in
     ((few, omega (arith, few, c .before .first-taken-arg2 .given .0, c .first-taken-arg3 .given .0 .1)), s .pre)
@@ -50,7 +51,7 @@ returns-2 c =
     let at : ℕ → Trace = λ m. trace (t .stage) m (t .rows) (t .ranks) (t .setup) (t .checker) in (
       c .first-taken .ensures .0
           ∙ ap (takenIn (t .stage) (at (l .before .next-count .result))) (n .ensures .1)
-          ∙ ap₂ (λ (m x : ℕ). takenIn (t .stage) (at m) (valuesOf x line))
+          ∙ ap₂ (λ (m x : ℕ). takenIn (t .stage) (at m) (valuesOf x space line))
           (l .before .next-count .ensures) (l .letter .ensures)
           ∙ sym (taken-on t line (sym (i .before .is-decided .ensures) ∙ i .if1 .left)),
       c .first-taken .ensures .1,

@@ -5,7 +5,7 @@ use mathlib.Core.Path.{sym, ap, _∙_, subst}
 use mathlib.Core.Bool.{Bool, true, cond}
 use lib.ListN.{getD}
 use borrow.Author.Needs.{needs}
-use Rattle.trace_lines.specs.Lines.{bits32}
+use Rattle.text.specs.Text.{bits32}
 use Rattle.tracing.proofs.shapes.deadline_in.Statement.{statement}
 use Rattle.tracing.proofs.shapes.deadline_in.Tie as tie
 

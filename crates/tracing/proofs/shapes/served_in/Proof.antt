@@ -2,7 +2,7 @@
 -- Assumes nothing.
 use native.Mathlib.Omega.{arith}
 use borrow.Author.Tests.{eq-eqb, ne-eqb}
-use Rattle.trace_lines.specs.Lines.{dash}
+use Rattle.lines.specs.Lines.{dash}
 use borrow.Author.Needs.{needs}
 use Rattle.tracing.proofs.shapes.served_in.Statement.{statement}
 use Rattle.tracing.proofs.shapes.served_in.Tie as tie

@@ -9,7 +9,8 @@ use lib.ListN.{length, take, drop, length-drop}
 use lib.Seq.{take-all, length-take-le}
 use borrow.Author.Tests.{not-true, not-false}
 use borrow.Author.Needs.{needs}
-use Rattle.trace_lines.specs.Lines.{bits32, allFit}
+use Rattle.text.specs.Text.{bits32}
+use Rattle.lines.specs.Lines.{allFit}
 use Rattle.tracing.specs.Shapes.{chargesAt, entryBegins}
 use Rattle.tracing.proofs.Fitting.{enough-numbers}
 use Rattle.tracing.proofs.stages.entry_line.Statement.{statement}

@@ -1,0 +1,4 @@
+-- What follows from the definitions, and logs that compute.
+pub mod Spread
+pub mod Texts
+pub mod Cases

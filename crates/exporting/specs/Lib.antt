@@ -1,0 +1,2 @@
+-- A log exported as comma-separated lines. Nothing is proved here.
+pub mod Exporting

@@ -1,2 +1,0 @@
--- A line of a trace as numbers. Nothing is proved here.
-pub mod Lines
