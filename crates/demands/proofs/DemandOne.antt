@@ -30,7 +30,7 @@ use Rattle.gate.specs.declared.Verdict.the-variants as given
 use Rattle.gate.specs.Shown.{setupOf, stateOf, shown}
 use Rattle.gate.specs.Made as verdict
 use Rattle.gate.specs.Made.{emptyGate, freshGate, verdictOf, made}
-use Rattle.parts.proofs.Reading.{shown-back}
+use Rattle.parts.proofs.Laid.{shown-back}
 use Rattle.soundness.specs.Clauses.{soundOf}
 use Rattle.soundness.proofs.Exact.{passed-laid, empty-fails}
 use Rattle.answers.specs.declared.Answer.{Answer}

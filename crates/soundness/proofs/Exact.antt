@@ -15,7 +15,7 @@ use Rattle.gate.specs.declared.Setup.{Setup}
 use Rattle.gate.specs.declared.Gate.{Gate}
 use Rattle.gate.specs.Shown.{setupOf, stateOf, shown}
 use Rattle.gate.specs.Made.{trimmedIn, emptyGate, freshGate, made}
-use Rattle.parts.proofs.Reading.{LaidOut, shown-back}
+use Rattle.parts.proofs.Laid.{LaidOut, shown-back}
 use Rattle.parts.proofs.SoundShows.{sound-back, fresh-sound}
 use Rattle.soundness.specs.Tests.{setIn}
 use Rattle.soundness.specs.Clauses.{setupSound, everyone, standSound, restSound, soundOf}

@@ -26,7 +26,7 @@ use Rattle.gate.specs.declared.Setup.{Setup}
 use Rattle.gate.specs.declared.Gate.{Gate}
 use Rattle.gate.specs.Shown.{setupOf, stateOf}
 use Rattle.parts.specs.Shows.{Fine, ServerFits}
-use Rattle.parts.proofs.Reading.{LaidOut}
+use Rattle.parts.proofs.Laid.{LaidOut}
 use Rattle.soundness.specs.Tests.{every, allBelow, distinct, joined, setIn, firstIn}
 use Rattle.soundness.specs.Clauses.{laid, everyone}
 use Rattle.soundness.specs.Clauses.{roomSound, roomsSound, globalSound, serverSound}

@@ -19,7 +19,8 @@ use Rattle.parts.specs.Parts.{gateOf, keysIn, deadlinesIn}
 use Rattle.gate.specs.Shown.{setupOf, stateOf}
 use Rattle.parts.specs.Shows.{Shows}
 use Rattle.parts.proofs.Keys.{gate-keys, keys-deadlines}
-use Rattle.parts.proofs.Reading.{LaidOut, laid-shows, shows-is}
+use Rattle.parts.proofs.Reading.{shows-is}
+use Rattle.parts.proofs.Laid.{LaidOut, laid-shows}
 use Rattle.parts.proofs.SoundShows.{accepted-fine}
 use Rattle.soundness.specs.Clauses.{soundOf}
 use Rattle.soundness.proofs.Exact.{passed-laid, passed-sound}
