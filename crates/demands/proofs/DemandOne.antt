@@ -37,14 +37,14 @@ use Rattle.answers.specs.declared.Answer.{Answer}
 use Rattle.answers.specs.declared.Answer.TheVariants as is
 use Rattle.answers.specs.Answers.{number_of}
 use Rattle.step.specs.Stepped.{Result, stepped}
-use Rattle.log.specs.declared.Opening.TheVariants.{Records, Refused}
-use Rattle.log.specs.declared.Refusal.{Refusal}
-use Rattle.log.specs.declared.Refusal.TheVariants.{Long, Short, BadMark, BadVersion, BadClusters, NoCap}
-use Rattle.log.specs.declared.Refusal.TheVariants.{ManyClients, CutTables, BadRanks, BadSize, BadRow, CutRecord}
+use Rattle.logs.specs.declared.Opening.TheVariants.{Records, Refused}
+use Rattle.logs.specs.declared.Refusal.{Refusal}
+use Rattle.logs.specs.declared.Refusal.TheVariants.{Long, Short, BadMark, BadVersion, BadClusters, NoCap}
+use Rattle.logs.specs.declared.Refusal.TheVariants.{ManyClients, CutTables, BadRanks, BadSize, BadRow, CutRecord}
 use Rattle.layout.specs.Tables.{version_in, setup_in}
-use Rattle.log.specs.Opening.{told, opening_of}
+use Rattle.logs.specs.Opening.{told, opening_of}
 use Rattle.layout.specs.Layout.{record_size}
-use Rattle.log.specs.Reading.{whole, heards_in}
+use Rattle.logs.specs.Reading.{whole, heards_in}
 use Rattle.report.specs.Report.{heading, entry_lines, refused_line, last_lines, replayed, report_of}
 use Rattle.quote.specs.declared.Answer as quoted
 use Rattle.quote.specs.declared.Answer.TheVariants as quoted-as

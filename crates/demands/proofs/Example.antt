@@ -22,13 +22,13 @@ use Rattle.rules.proofs.Cases.{log_setup, log_records, quiet_records}
 use Rattle.gate.specs.declared.Setup.{Setup}
 use Rattle.gate.specs.Shown.{setup_of, table}
 use Rattle.gate.specs.Made.{verdict_of, made, trimmed_in, zero_past, empty_bytes}
-use Rattle.log.specs.declared.Opening.TheVariants.{Records, Refused}
-use Rattle.log.specs.declared.Refusal.TheVariants.{Short}
+use Rattle.logs.specs.declared.Opening.TheVariants.{Records, Refused}
+use Rattle.logs.specs.declared.Refusal.TheVariants.{Short}
 use Rattle.layout.specs.Tables.{setup_in}
-use Rattle.log.specs.Opening.{head_of, tables_of, opening_of}
+use Rattle.logs.specs.Opening.{head_of, tables_of, opening_of}
 use Rattle.layout.specs.Layout.{record_size}
 use Rattle.layout.specs.Log.{Sized, setup_bytes}
-use Rattle.log.specs.Reading.{whole}
+use Rattle.logs.specs.Reading.{whole}
 use Rattle.writing.specs.Writing.{item_put, form_put}
 use Rattle.rewriting.specs.Sequence.{onwards, log_put}
 use Rattle.demands.specs.Histories.{charge_after, NoneUnknown}

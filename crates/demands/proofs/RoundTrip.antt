@@ -23,11 +23,11 @@ use Rattle.text.specs.Text.{written}
 use Rattle.layout.specs.Layout.{max_log, record_size, records_at}
 use Rattle.layout.specs.Tables.{version_in, setup_in}
 use Rattle.layout.specs.Log.{Sized, setup_bytes, record_bytes, log_bytes}
-use Rattle.log.specs.declared.Opening.TheVariants.{Records}
-use Rattle.log.specs.Opening.{opening_of}
-use Rattle.log.specs.Reading.{whole, records_in, heards_in}
-use Rattle.log.proofs.Openings.{opens}
-use Rattle.log.proofs.Again.{log-again}
+use Rattle.logs.specs.declared.Opening.TheVariants.{Records}
+use Rattle.logs.specs.Opening.{opening_of}
+use Rattle.logs.specs.Reading.{whole, records_in, heards_in}
+use Rattle.logs.proofs.Openings.{opens}
+use Rattle.logs.proofs.Again.{log-again}
 use Rattle.writing.specs.declared.Answer.TheVariants.{Written}
 use Rattle.writing.specs.Writing.{told, Left, lacks_room, form_put, version_ranks, version_fits, setup_told, setup_put}
 use Rattle.writing.specs.Writing.{record_told, record_put, event_told, event_put}

@@ -17,15 +17,15 @@ use Rattle.text.specs.Text.{written}
 use Rattle.layout.specs.Layout.{max_log}
 use Rattle.layout.specs.Tables.{version_in, setup_in}
 use Rattle.layout.specs.Log.{log_bytes}
-use Rattle.log.specs.declared.Opening.{Opening}
-use Rattle.log.specs.declared.Opening.TheVariants as opening
-use Rattle.log.specs.declared.Refusal.TheVariants.{Long}
-use Rattle.log.specs.Opening.{told}
-use Rattle.log.specs.Reading.{records_in, whole_of}
-use Rattle.log.proofs.Openings.{opens}
-use Rattle.log.proofs.Held.{long-refused}
-use Rattle.log.proofs.Wholes.{whole-refused, whole_is}
-use Rattle.log.proofs.Again.{log-again}
+use Rattle.logs.specs.declared.Opening.{Opening}
+use Rattle.logs.specs.declared.Opening.TheVariants as opening
+use Rattle.logs.specs.declared.Refusal.TheVariants.{Long}
+use Rattle.logs.specs.Opening.{told}
+use Rattle.logs.specs.Reading.{records_in, whole_of}
+use Rattle.logs.proofs.Openings.{opens}
+use Rattle.logs.proofs.Held.{long-refused}
+use Rattle.logs.proofs.Wholes.{whole-refused, whole_is}
+use Rattle.logs.proofs.Again.{log-again}
 use Rattle.rewriting.specs.RoundTrip.{AllBytes}
 use Rattle.items.specs.declared.Turned.TheVariants.{Whole, Refused}
 use Rattle.items.specs.Lines.{lines_of}

@@ -18,10 +18,10 @@ use Rattle.layout.specs.Bytes.{byte_at}
 use Rattle.layout.specs.Layout.{max_log, mark, version_at, tables_at, size_at, row_size, record_size}
 use Rattle.layout.specs.Tables.{version_in, clusters_in, clients_in}
 use Rattle.layout.proofs.Again.{bytes-from}
-use Rattle.log.specs.declared.Opening.TheVariants.{Records}
-use Rattle.log.specs.Reading.{whole, whole_end, whole_of}
-use Rattle.log.proofs.Openings.{Opens, opens}
-use Rattle.log.proofs.Wholes.{whole_is}
+use Rattle.logs.specs.declared.Opening.TheVariants.{Records}
+use Rattle.logs.specs.Reading.{whole, whole_end, whole_of}
+use Rattle.logs.proofs.Openings.{Opens, opens}
+use Rattle.logs.proofs.Wholes.{whole_is}
 use Rattle.items.specs.Items.{head_form, sizes_form, row_form, record_form, head_fits, item_size, item_bytes, numbers_at}
 use Rattle.items.specs.Lines.{head_letter, sizes_letter, row_letter, record_letter, line, lines_at}
 use Rattle.items.specs.Lines.{sizes_line, row_lines, record_lines, lines_of}

@@ -14,10 +14,10 @@ use Rattle.lines.specs.Lines.{fit_in}
 use Rattle.lines.specs.Input.{read_from}
 use Rattle.layout.specs.Layout.{max_log, mark, carries_ranks, record_size, records_at}
 use Rattle.layout.specs.Tables.{version_in, clusters_in, clients_in}
-use Rattle.log.specs.declared.Opening.TheVariants.{Records}
-use Rattle.log.specs.Reading.{whole, whole_of}
-use Rattle.log.proofs.Openings.{opens}
-use Rattle.log.proofs.Wholes.{whole_is}
+use Rattle.logs.specs.declared.Opening.TheVariants.{Records}
+use Rattle.logs.specs.Reading.{whole, whole_of}
+use Rattle.logs.proofs.Openings.{opens}
+use Rattle.logs.proofs.Wholes.{whole_is}
 use Rattle.items.specs.Items.{head_form, sizes_form, row_form, record_form, head_fits, item_bytes}
 use Rattle.items.specs.Lines.{head_letter, sizes_letter, row_letter, record_letter}
 use Rattle.items.specs.Lines.{head_line, sizes_line, row_lines, record_lines, lines_of}

@@ -7,7 +7,7 @@ ghost use Rattle.write_log.specs.Sizes.{line_bytes, buffer_bytes, text_bytes};
 
 use crate::input::{INPUT, MAX_ROOM};
 use layout::RECORD;
-use log::Refusal;
+use logs::Refusal;
 use report::put_refused;
 use text::{LF, SPACE, put_byte, put_bytes, put_number, wide_size};
 
@@ -25,7 +25,7 @@ pub fn put_refusal(out: &mut [u8; TEXT], at: usize, r: Refusal) -> usize
     requires { at + line_room ≤ text_bytes }
     ensures { result ≤ length out.new }
 {
-    put_refused(out, at, log::number(r), log::offset(r))
+    put_refused(out, at, logs::number(r), logs::offset(r))
 }
 
 // A number behind its name.

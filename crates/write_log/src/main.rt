@@ -11,7 +11,7 @@ use gate::Setup;
 use input::{Asked, INPUT, MAX_ROOM, read_input, room_in};
 use layout::record_size;
 use lines::{TEXT, put_buffer, put_entry, put_named, put_refusal};
-use log::{Next, Opening, Refusal, record_at};
+use logs::{Next, Opening, Refusal, record_at};
 use streams::Whole;
 use text::wide_size;
 
@@ -64,7 +64,7 @@ fn put_tried(log: &[u8], room: usize, out: &mut [u8; TEXT]) -> usize
     requires { (length log.now ≤ input_bytes) × (room ≤ max_room) }
     ensures { result ≤ length out.new }
 {
-    let o = log::open(log);
+    let o = logs::open(log);
     let opening = o.opening;
     let version = o.version;
     let setup = o.setup;

@@ -7,7 +7,7 @@ use Rattle.sets.proofs.Words.{ones-count}
 use Rattle.sets.proofs.count.Statement.{statement}
 use Rattle.sets.proofs.count.Tie as tie
 
-cast-result : tie.Need-overflow-cast-result
+cast-result : tie.Need-overflow_cast-result
 cast-result c = omega (arith, ones-le 64 c.args.s (omega arith))
 
 returns : tie.Need-returns

@@ -6,7 +6,7 @@ use Rattle.sets.proofs.Lowest.{first-in}
 use Rattle.sets.proofs.first.Statement.{statement}
 use Rattle.sets.proofs.first.Tie as tie
 
-cast-result : tie.Need-overflow-cast-result
+cast-result : tie.Need-overflow_cast-result
 cast-result c = omega (arith, trailing_le 64 c.args.s)
 
 returns : tie.Need-returns

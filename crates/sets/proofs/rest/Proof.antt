@@ -5,7 +5,7 @@ use borrow.Author.Rules.{rules}
 use Rattle.sets.proofs.rest.Statement.{statement}
 use Rattle.sets.proofs.rest.Tie as tie
 
-sub-result : tie.Need-overflow-sub-result
+sub-result : tie.Need-overflow_sub-result
 sub-result c = search rules
 
 returns : tie.Need-returns

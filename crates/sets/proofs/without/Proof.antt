@@ -11,7 +11,7 @@ use Rattle.sets.proofs.Words.{one_shifted, or-xor-one}
 use Rattle.sets.proofs.without.Statement.{statement}
 use Rattle.sets.proofs.without.Tie as tie
 
-shl_one : tie.Need-overflow-shl-one
+shl_one : tie.Need-overflow_shl-one
 shl_one c = search rules
 
 returns : tie.Need-returns
