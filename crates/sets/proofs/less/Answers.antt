@@ -2,11 +2,7 @@
 -- Assumes nothing.
 use native.Mathlib.Omega.{arith}
 use Rattle.sets.proofs.Words.{or-xor-both}
-use Rattle.sets.proofs.less.Statement.{statement}
-use Rattle.sets.proofs.less.Tie as tie
+use Rattle.sets.proofs.less.Goals as goal
 
-returns : tie.Need-returns
+pub returns : goal.returns
 returns c = or-xor-both 64 c.args.s c.args.t (omega arith) (omega arith)
-
-pub less-spec : {M : Type 1} → statement M
-less-spec = tie.close (tie.spec returns)
