@@ -4,12 +4,8 @@ use mathlib.Core.Path.{refl}
 use Rattle.sets.specs.Sets.{set_of}
 use Rattle.places.specs.Places.{pad}
 use Rattle.gate.specs.Shown.{shown, table}
-use Rattle.gate.proofs.resting.at_rest.Statement.{statement}
-use Rattle.gate.proofs.resting.at_rest.Tie as tie
+use Rattle.gate.proofs.resting.at_rest.Goals as goal
 
-returns : tie.Need-returns
+pub returns : goal.returns
 unfolding shown table pad set_of
 returns c = refl
-
-pub at-rest-spec : {M : Type 1} → statement M
-at-rest-spec = tie.close (tie.spec returns)
