@@ -1,4 +1,5 @@
 // A gate in parts: taken apart, and put together. Inner functions take the parts.
+#![tactic(auto)]
 
 ghost use Rattle.std.specs.Prelude.{◌≡◌};
 ghost use Rattle.parts.specs.Parts.{queues_of, gate_of, keys_in, deadlines_in};
