@@ -7,20 +7,10 @@ use lib.ListN.{length}
 use Rattle.rules.specs.Limits.{max_size}
 use Rattle.places.specs.Places.{place_of}
 use Rattle.places.proofs.Queues.{place-has}
-use Rattle.rows.proofs.line_holds.Statement.{statement}
-use Rattle.rows.proofs.line_holds.Tie as tie
+use Rattle.rows.proofs.line_holds.Goals as goal
 
-slice-aggregate-find : tie.Need-slice-aggregate-find
-slice-aggregate-find c = search rules
-
-find-requires : tie.Need-find-requires
-find-requires c κs = search rules
-
-returns : tie.Need-returns
+pub returns : goal.returns
 returns c =
-    let a = c.before.before.before.args in
+    let a = c.args in
     let all : length a.l.places ≡ max_size = search rules in
     rw c.find.ensures (ap (ltb (place_of a.x a.l.places)) (sym all) ∙ place-has a.x a.l.places)
-
-pub line-holds-spec : {M : Type 1} → statement M
-line-holds-spec = tie.close (tie.spec slice-aggregate-find find-requires returns)
