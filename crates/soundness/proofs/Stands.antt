@@ -20,7 +20,6 @@ use Rattle.rules.proofs.Lists.{has-append, no-first, distinct-right}
 use Rattle.rules.proofs.Setups.{Allowed, allowed}
 use Rattle.sets.specs.Sets.{member}
 use Rattle.places.specs.Places.{unpad}
-use Rattle.gate.specs.declared.Setup.{Setup}
 use Rattle.gate.specs.declared.Gate.{Gate}
 use Rattle.gate.specs.Shown.{setup_of, state_of, blank_line}
 use Rattle.parts.specs.Shows.{Fine}

@@ -22,7 +22,6 @@ use Rattle.rules.proofs.Lists.{has-none, heads-has, heads-cons}
 use Rattle.rules.proofs.Setups.{Allowed}
 use Rattle.sets.specs.Sets.{member}
 use Rattle.sets.proofs.Bits.{member-none}
-use Rattle.gate.specs.declared.Setup.{Setup}
 use Rattle.gate.specs.declared.Gate.{Gate}
 use Rattle.gate.specs.Shown.{setup_of, state_of}
 use Rattle.parts.specs.Shows.{Fine, ServerFits}
