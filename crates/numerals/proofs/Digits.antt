@@ -95,7 +95,8 @@ unfolding field_of
 field-minus [] h e = absurd (omega arith)
 field-minus (b ∷ f) h e = rw (eq-eqb b minus e)
 
-pub field_plain : (f : List ℕ) → 0 < length f → (get_or f 0 0 ≡ minus → ⊥) → field_of f ≡ fitting (signed pos (digits f))
+pub field_plain : (f : List ℕ) → 0 < length f → (get_or f 0 0 ≡ minus → ⊥)
+    → field_of f ≡ fitting (signed pos (digits f))
 unfolding field_of
 field_plain [] h e = absurd (omega arith)
 field_plain (b ∷ f) h e = rw (ne_eqb b minus e)

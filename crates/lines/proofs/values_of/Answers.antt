@@ -27,7 +27,8 @@ returns-then-not-is_begun c =
 pub returns-then-line-eq1 : goal.returns-then-line-eq1
 returns-then-line-eq1 c =
     let a = c.args in
-    rw (letter-alone a.letter a.separator a.line.now (begun c.is_begun.ensures c.if-not-is_begun.false) c.if-line-eq1.true)
+    let begins = begun c.is_begun.ensures c.if-not-is_begun.false in
+    rw (letter-alone a.letter a.separator a.line.now begins c.if-line-eq1.true)
     (record { value = refl; v_after = refl })
 
 pub slice_bounds-read_values-count : goal.slice_bounds-read_values-count
@@ -54,7 +55,8 @@ read_values-requires c =
 pub returns : goal.returns
 returns c =
     let a = c.args in
-    let both = in-places a.letter a.separator a.line.now (begun c.is_begun.ensures c.if-not-is_begun.false) c.if-line-eq1.false a.v.now
+    let begins = begun c.is_begun.ensures c.if-not-is_begun.false in
+    let both = in-places a.letter a.separator a.line.now begins c.if-line-eq1.false a.v.now
     c.read_values.new.v
     refl (search rules) (omega arith) c.read_values.ensures.value c.read_values.ensures.placed in
     record { value = both.0; v_after = both.1 }

@@ -40,12 +40,14 @@ returns-then-b-gt-NINE c =
 
 pub returns-then-n-gt-LONG_BEFORE : goal.returns-then-n-gt-LONG_BEFORE
 returns-then-n-gt-LONG_BEFORE c =
-    sym (overflows c.args.f.now c.loop-i.n c.loop-i.i (omega arith) (digit c.args.f.now c.loop-i.i c.if-b-lt-ZERO.false c.if-b-gt-NINE.false) (omega arith))
+    let d = digit c.args.f.now c.loop-i.i c.if-b-lt-ZERO.false c.if-b-gt-NINE.false in
+    sym (overflows c.args.f.now c.loop-i.n c.loop-i.i (omega arith) d (omega arith))
     ∙ ap (up_to max_count) c.loop-i.invariant.1
 
 pub returns-then-d-gt-LAST : goal.returns-then-d-gt-LAST
 returns-then-d-gt-LAST c =
-    sym (overflows c.args.f.now c.loop-i.n c.loop-i.i (omega arith) (digit c.args.f.now c.loop-i.i c.if-b-lt-ZERO.false c.if-b-gt-NINE.false) (omega (arith, c.wide-d.ensures)))
+    let d = digit c.args.f.now c.loop-i.i c.if-b-lt-ZERO.false c.if-b-gt-NINE.false in
+    sym (overflows c.args.f.now c.loop-i.n c.loop-i.i (omega arith) d (omega (arith, c.wide-d.ensures)))
     ∙ ap (up_to max_count) c.loop-i.invariant.1
 
 pub overflow_mul-n : goal.overflow_mul-n
@@ -67,7 +69,8 @@ loop-i-smaller c = omega arith
 
 pub loop-i-preserved : goal.loop-i-preserved
 loop-i-preserved c =
-    let g = goes_on c.args.f.now c.loop-i.n c.loop-i.i (omega arith) (digit c.args.f.now c.loop-i.i c.if-b-lt-ZERO.false c.if-b-gt-NINE.false) in
+    let e = digit c.args.f.now c.loop-i.i c.if-b-lt-ZERO.false c.if-b-gt-NINE.false in
+    let g = goes_on c.args.f.now c.loop-i.n c.loop-i.i (omega arith) e in
     let d = c.wide-d.ensures in
     let most : c.loop-i.n * 10 + c.wide-d.result ≤ max_count =
     elim c.if-n-eq-LONG_BEFORE.branch [

@@ -36,7 +36,9 @@ overflow_sub-result c = rw (less (c.args.n - 1) c.if-k-lt-MOST.true) (record { s
 
 pub returns-then-k-lt-MOST : goal.returns-then-k-lt-MOST
 returns-then-k-lt-MOST c = let n = c.args.n in
-    to_z-of_z (overflow_sub-result c) ∙ less (n - 1) c.if-k-lt-MOST.true ∙ in-negative n c.if-n-eq0.false c.if-k-lt-MOST.true
+    to_z-of_z (overflow_sub-result c)
+    ∙ less (n - 1) c.if-k-lt-MOST.true
+    ∙ in-negative n c.if-n-eq0.false c.if-k-lt-MOST.true
 
 pub returns-else-k-lt-MOST : goal.returns-else-k-lt-MOST
 returns-else-k-lt-MOST c = out-negative c.args.n c.if-n-eq0.false c.if-k-lt-MOST.false

@@ -38,7 +38,8 @@ returns-then-b-gt-NINE c =
 pub returns-then-n-gt-MOST_BEFORE : goal.returns-then-n-gt-MOST_BEFORE
 returns-then-n-gt-MOST_BEFORE c =
     let d = digit c.args.f.now c.loop-i.i c.if-b-lt-ZERO.false c.if-b-gt-NINE.false in
-    sym (overflows c.args.f.now c.loop-i.n c.loop-i.i (omega arith) d c.if-n-gt-MOST_BEFORE.true) ∙ ap sized c.loop-i.invariant.1
+    sym (overflows c.args.f.now c.loop-i.n c.loop-i.i (omega arith) d c.if-n-gt-MOST_BEFORE.true)
+    ∙ ap sized c.loop-i.invariant.1
 
 pub overflow_mul-n : goal.overflow_mul-n
 overflow_mul-n c = omega arith

@@ -11,7 +11,8 @@ use Rattle.quote.proofs.lines_burn.Given as goal
 abbrev pub invariant-loop-i : goal.invariant-loop-i
 invariant-loop-i l =
     (l.i ≤ length l.calls)
-    × (l.sum + burnt l.m l.k (drop l.i l.calls) (drop l.i l.caps) (drop l.i l.tidies) ≡ burnt l.m l.k l.calls l.caps l.tidies)
+    × (l.sum + burnt l.m l.k (drop l.i l.calls) (drop l.i l.caps) (drop l.i l.tidies)
+    ≡ burnt l.m l.k l.calls l.caps l.tidies)
     × (l.sum ≤ l.i * most_of_line)
 
 abbrev pub decreases-loop-i : goal.decreases-loop-i

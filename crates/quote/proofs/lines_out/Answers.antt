@@ -54,7 +54,8 @@ returns-then-not-in_range-2 c =
     let n = told-in 0 max_calls (at a.calls.now c.loop-i.i) c.in_range-arg-1.given c.in_range.result c.in_range.ensures
     (ap not c.if-not-in_range.false) in
     let x = at a.caps.now c.loop-i.i in
-    let y = told-out 1 max_cap x c.in_range-arg-in-loop-i-1.given r.result r.ensures (ap not c.if-not-in_range-2.true) in
+    let y = told-out 1 max_cap x c.in_range-arg-in-loop-i-1.given r.result r.ensures
+    (ap not c.if-not-in_range-2.true) in
     omega (
       arith,
       cap-out a.calls.now a.caps.now a.tidies.now c.loop-i.i (omega arith) c.requires.0 n y,
@@ -79,7 +80,8 @@ returns-then-not-in_range-3 c =
     let n = told-in 0 max_calls (at a.calls.now c.loop-i.i) c.in_range-arg-1.given c.in_range.result c.in_range.ensures
     (ap not c.if-not-in_range.false) in
     let x = at a.tidies.now c.loop-i.i in
-    let y = told-out 0 max_tidy x c.in_range-arg-in-loop-i-2-1.given r.result r.ensures (ap not c.if-not-in_range-3.true) in
+    let y = told-out 0 max_tidy x c.in_range-arg-in-loop-i-2-1.given r.result r.ensures
+    (ap not c.if-not-in_range-3.true) in
     let l = told-in 1 max_cap (at a.caps.now c.loop-i.i) c.in_range-arg-in-loop-i-1.given
     c.in_range-in-loop-i.result c.in_range-in-loop-i.ensures (ap not c.if-not-in_range-2.false) in
     let even = c.requires.0 in
@@ -99,7 +101,8 @@ loop-i-preserved c =
     let a = c.args in
     let r = c.in_range-in-loop-i-2 in
     let x = at a.tidies.now c.loop-i.i in
-    let y = told-in 0 max_tidy x c.in_range-arg-in-loop-i-2-1.given r.result r.ensures (ap not c.if-not-in_range-3.false) in
+    let y = told-in 0 max_tidy x c.in_range-arg-in-loop-i-2-1.given r.result r.ensures
+    (ap not c.if-not-in_range-3.false) in
     let n = told-in 0 max_calls (at a.calls.now c.loop-i.i) c.in_range-arg-1.given c.in_range.result c.in_range.ensures
     (ap not c.if-not-in_range.false) in
     let l = told-in 1 max_cap (at a.caps.now c.loop-i.i) c.in_range-arg-in-loop-i-1.given
