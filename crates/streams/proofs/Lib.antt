@@ -2,3 +2,4 @@
 pub mod Cases
 pub mod WholeCases
 pub mod Standings
+pub mod Tests
