@@ -7,7 +7,7 @@ use parts::Queues;
 
 // What an event answers. Unknown is for an invoke without the form that its setup calls for, and for a record that is
 // no event.
-#[derive(Drop)]
+#[derive(Clone, Copy)]
 pub enum Answer {
     Accepted,
     NoClient,
@@ -24,7 +24,7 @@ pub enum Answer {
 }
 
 // The queues after an event, and the answer. In this order no copy of the queues begins inside a word.
-#[derive(Drop)]
+#[derive(Clone, Copy)]
 pub struct Outcome {
     pub queues: Queues,
     pub answer: Answer,

@@ -10,7 +10,7 @@ ghost use Rattle.blocking.specs.Delegates.{told_of, context_in, delegate_in};
 use group_rules::{Context, Group, Server, Stack, Tickets};
 
 // To whom a context delegates its bandwidth.
-#[derive(Drop)]
+#[derive(Clone, Copy)]
 pub enum Delegate {
     Nobody,
     Server(Server),

@@ -17,14 +17,14 @@ use text::{least, next_count, wide16};
 const BAD_VERSION: u64 = 22;
 
 // Whom a kernel says is in service.
-#[derive(Drop)]
+#[derive(Clone, Copy)]
 pub enum Served {
     Nobody,
     By(Client),
 }
 
 // What an entry differs in.
-#[derive(Drop)]
+#[derive(Clone, Copy)]
 pub enum Part {
     Answer,
     Served,
@@ -32,7 +32,7 @@ pub enum Part {
 }
 
 // The setup is refused, with its number; or all entries so far agree; or the first that differs, from 0, and in what.
-#[derive(Drop)]
+#[derive(Clone, Copy)]
 pub enum Verdict {
     Refused(u64),
     Agrees,
@@ -41,7 +41,7 @@ pub enum Verdict {
 
 // What is held between entries: the trace's version, the gate that the rules give so far, how many entries were seen,
 // and the verdict so far.
-#[derive(Drop)]
+#[derive(Clone, Copy)]
 pub struct Checker {
     pub version: u16,
     pub gate: Gate,

@@ -16,7 +16,7 @@ use group_rules::{Group, Stack, Tickets};
 pub use replies::reply;
 
 // What an event or a question answers.
-#[derive(Drop)]
+#[derive(Clone, Copy)]
 pub enum Answer {
     Accepted,
     Unsound,
@@ -53,7 +53,7 @@ pub fn number(a: Answer) -> u64
 }
 
 // The answer, and the group after.
-#[derive(Drop)]
+#[derive(Clone, Copy)]
 pub struct Answered {
     pub answer: Answer,
     pub group: Group,

@@ -18,7 +18,7 @@ const ROOM: usize = lines::MAX_LINE + 1;
 pub const OUT: usize = PART * group_tells::MOST;
 
 // The group, how many events and lines have been read, and whether the last line was malformed.
-#[derive(Drop)]
+#[derive(Clone, Copy)]
 pub struct Run {
     pub group: Group,
     events: u64,
@@ -27,7 +27,7 @@ pub struct Run {
 }
 
 // What has been read; the line that has begun, the first n bytes of a room; and how many bytes were written.
-#[derive(Drop)]
+#[derive(Clone, Copy)]
 pub struct Held {
     pub run: Run,
     room: [u8; ROOM],
@@ -37,7 +37,7 @@ pub struct Held {
 
 // Where reading stands in a part: what has been read, how many bytes of a line are held, how many of the part were
 // passed, and how many were written.
-#[derive(Drop)]
+#[derive(Clone, Copy)]
 struct Standing {
     run: Run,
     n: usize,
@@ -46,7 +46,7 @@ struct Standing {
 }
 
 // What has been read, and how many bytes were written.
-#[derive(Drop)]
+#[derive(Clone, Copy)]
 struct Told {
     run: Run,
     used: usize,

@@ -3,21 +3,21 @@ ghost use Rattle.std.specs.Prelude.{◌≡◌};
 ghost use Rattle.group_rules.specs.Groups.{no_tickets, no_calls, none_entered};
 
 // A context's number. Each processor has one context.
-#[derive(Drop)]
+#[derive(Clone, Copy)]
 pub struct Context(pub u8);
 
 // A server's number.
-#[derive(Drop)]
+#[derive(Clone, Copy)]
 pub struct Server(pub u8);
 
 // How many tickets a context has, by server.
-#[derive(Drop)]
+#[derive(Clone, Copy)]
 pub struct Tickets {
     pub counts: [u8; 16],
 }
 
 // The servers of a context's calls that are not answered, the first call first; unused places hold 255.
-#[derive(Drop)]
+#[derive(Clone, Copy)]
 pub struct Stack {
     pub places: [u8; 8],
 }
@@ -25,7 +25,7 @@ pub struct Stack {
 // An event is one of three kinds, each with its own data. Entry: a context, its timestamp and the server of its first
 // call; the tickets that it brings stand beside the event. Call: the server of the context's current request calls
 // another. Reply: it replies.
-#[derive(Drop)]
+#[derive(Clone, Copy)]
 pub enum Event {
     Entry(Context, u64, Server),
     Call(Context, Server),
@@ -34,7 +34,7 @@ pub enum Event {
 
 // Whether anybody has entered, and the timestamp of the last entry; of each context its timestamp, its tickets and its
 // stack. A context is queued while it has a call on its stack.
-#[derive(Drop)]
+#[derive(Clone, Copy)]
 pub struct Group {
     pub entered: bool,
     pub last: u64,

@@ -18,7 +18,7 @@ use text::{BITS_8, BITS_64, SPACE};
 const NUMBERS: usize = 19;
 
 // What a line says: an event, with the tickets that it brings; or, if that is not known, nothing.
-#[derive(Drop)]
+#[derive(Clone, Copy)]
 pub struct Said {
     pub known: bool,
     pub event: Event,

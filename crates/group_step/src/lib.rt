@@ -12,7 +12,7 @@ use group_events::{Answer, Answered, call, entry, number, reply, stack_of};
 use group_rules::{Context, Event, Group, Tickets};
 
 // The answer to a question, and whom it names.
-#[derive(Drop)]
+#[derive(Clone, Copy)]
 pub struct Named {
     pub answer: Answer,
     pub who: Delegate,

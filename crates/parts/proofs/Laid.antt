@@ -10,7 +10,6 @@ use lib.ListN.{length, get_or, get_or-eq_default}
 use borrow.Author.Tests.{eqb-true, eqb-false, ltb-true, ltb-false, lt-ltb}
 use Rattle.rules.specs.Limits.{max_clusters, max_size, max_clients}
 use Rattle.rules.specs.Lists.{has}
-use Rattle.rules.specs.State as rules
 use Rattle.rules.proofs.Tests.{by-test, clash, not_so}
 use Rattle.sets.specs.Sets.{member, set_of}
 use Rattle.sets.proofs.Laws.{is-set_of}
@@ -18,7 +17,6 @@ use Rattle.places.specs.Places.{pad, unpad, used_first}
 use Rattle.places.proofs.Pads.{pad-unpad, unpad-fits}
 use Rattle.gate.specs.declared.Setup.{Setup}
 use Rattle.gate.specs.declared.Gate.{Gate}
-use Rattle.parts.specs.Parts.{service, queues}
 use Rattle.gate.specs.Shown.{setup_of, server_of, blank_line, state_of}
 use Rattle.gate.specs.Shown.{table, show_lines, show_rooms, shown}
 use Rattle.parts.specs.Shows.{Fine, Fits, ServerFits, ShowsList, Shows}

@@ -1,4 +1,5 @@
 // A gate in parts: taken apart, and put together. Inner functions take the parts.
+#![tactic(auto)]
 
 ghost use Rattle.std.specs.Prelude.{◌≡◌};
 ghost use Rattle.parts.specs.Parts.{queues_of, gate_of, keys_in, deadlines_in};
@@ -6,14 +7,14 @@ ghost use Rattle.parts.specs.Parts.{queues_of, gate_of, keys_in, deadlines_in};
 use gate::{Gate, Line, Server, Setup};
 
 // Who is in service, and the units served so far on that request; while it tidies, the units tidied since the reply.
-#[derive(Drop)]
+#[derive(Clone, Copy)]
 pub struct Service {
     pub server: Server,
     pub units: u32,
 }
 
 // What events change of a gate, but the charges and the deadlines: who waits where, and who is in service.
-#[derive(Drop)]
+#[derive(Clone, Copy)]
 pub struct Queues {
     pub lines: [Line; 8],
     pub rooms: [u64; 8],

@@ -90,7 +90,7 @@ fn lowest_in(keys: &[u32; 64], s: u64) -> usize
 // THE BEST
 
 // The best of those seen so far, and the lowest in rank of them.
-#[derive(Drop)]
+#[derive(Clone, Copy)]
 struct Kept {
     best: u64,
     last: usize,

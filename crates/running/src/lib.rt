@@ -23,7 +23,7 @@ fn passes_cap(cap: u16, units: u32, n: u16) -> bool
 }
 
 // What a run comes to: the service after it, and the answer.
-#[derive(Drop)]
+#[derive(Clone, Copy)]
 struct Ran {
     service: Service,
     answer: Answer,

@@ -5,7 +5,7 @@ ghost use Rattle.sets.specs.Sets.{member};
 ghost use Rattle.seen.specs.Seen.{seen_of, queue_seen};
 
 // Who is seen in lines or a queue, each of them once; or that something there is not sound.
-#[derive(Drop)]
+#[derive(Clone, Copy)]
 pub enum Seen {
     Unsound,
     Once(u64),

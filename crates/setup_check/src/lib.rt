@@ -10,7 +10,7 @@ ghost use Rattle.setup_check.specs.Answers.{trimmed, sets_of};
 use gate::Setup;
 
 // A setup's clients as sets: the real-time clients of each cluster, all of them, and the best-effort clients.
-#[derive(Drop)]
+#[derive(Clone, Copy)]
 pub struct Clients {
     pub own: [u64; 8],
     pub real: u64,

@@ -16,7 +16,7 @@ use gate::{
 use parts::Queues;
 
 // The answer, and the gate after.
-#[derive(Drop)]
+#[derive(Clone, Copy)]
 pub struct Answered {
     pub answer: Answer,
     pub gate: Gate,

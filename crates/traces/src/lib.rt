@@ -21,7 +21,7 @@ const ROOM: usize = lines::MAX_LINE + 1;
 pub const LINE: usize = 64;
 
 // What has been read, and the line that has begun: the first n bytes of a room.
-#[derive(Drop)]
+#[derive(Clone, Copy)]
 pub struct Held {
     pub trace: Trace,
     room: [u8; ROOM],
@@ -30,7 +30,7 @@ pub struct Held {
 
 // What is printed: the number of the first line that is malformed; that of a setup's refusal; the first entry that
 // differs, from 0, and in what; or how many entries are accepted.
-#[derive(Drop)]
+#[derive(Clone, Copy)]
 pub enum Judgement {
     Malformed(u64),
     Refused(u64),
@@ -40,7 +40,7 @@ pub enum Judgement {
 
 // Where reading stands in a part: what has been read, how many bytes of a line are held, and how many of the part were
 // passed.
-#[derive(Drop)]
+#[derive(Clone, Copy)]
 struct Standing {
     trace: Trace,
     n: usize,

@@ -14,7 +14,7 @@ use stages::{letter, line_taken};
 use text::{SPACE, next_count};
 
 // What the next line has to be; or that one was malformed.
-#[derive(Drop)]
+#[derive(Clone, Copy)]
 pub enum Stage {
     Head,
     Sizes,
@@ -25,7 +25,7 @@ pub enum Stage {
 
 // What has been read: how many lines, how many rows of clients, R, the setup so far, and the checker of the entries. A
 // malformed line is the last one that is counted.
-#[derive(Drop)]
+#[derive(Clone, Copy)]
 pub struct Trace {
     pub stage: Stage,
     pub lines: u64,
