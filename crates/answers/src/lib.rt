@@ -1,4 +1,5 @@
 // What an event answers, with its number, and what its function returns.
+#![tactic(auto)]
 
 ghost use Rattle.std.specs.Prelude.{◌≡◌};
 ghost use Rattle.answers.specs.Answers.{number_of};

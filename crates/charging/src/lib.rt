@@ -1,4 +1,5 @@
 // Who is charged when units are served, as a set of clients that is made once, and the charges, which change in place.
+#![tactic(auto)]
 
 ghost use Rattle.std.specs.Prelude.{◌≡◌, false, ◌+◌, ◌≤◌, ◌<◌, ltb, set};
 ghost use Rattle.rules.specs.Limits.{max_clusters, max_clients, max_charge};

@@ -15,7 +15,6 @@ use Rattle.rules.specs.Sound.{Sound}
 use Rattle.rules.specs.State.{State}
 use Rattle.rules.proofs.Answers.{Invokes}
 use Rattle.rules.proofs.Counts.{distinct-below}
-use Rattle.rules.proofs.Due.{last}
 use Rattle.rules.proofs.Lists.{heads-length}
 use Rattle.rules.proofs.Setups.{allowed}
 use Rattle.rules.proofs.Tests.{either_true}

@@ -1,4 +1,5 @@
 // Who enters: what an accepted invoke does to the queues.
+#![tactic(auto)]
 
 ghost use Rattle.std.specs.Prelude.{◌≡◌, ◌<◌};
 ghost use Rattle.rules.specs.Limits.{max_clients};

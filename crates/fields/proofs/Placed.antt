@@ -1,18 +1,23 @@
 -- What is read of the fields, placed one by one.
 -- Assumes nothing.
-use Prim.Native.Nat.{ℕ, ◌+◌, ◌-◌, ◌≤◌, ◌<◌}
+use Prim.Native.Nat.{ℕ, zero, suc, ◌+◌, ◌-◌, ◌≤◌, ◌<◌}
 use native.Mathlib.Omega.{arith}
 use mathlib.Core.Path.{◌≡◌, refl, sym, ap, ◌∙◌, subst}
-use mathlib.Core.List.{List, [], map}
+use mathlib.Core.List.{List, [], ◌∷◌, map}
 use lib.Dec.{eqb, ltb}
 use lib.ListN.{length, get_or, take, drop, set, replicate, length-take, length-set, length-map, length-replicate}
 use lib.ListN.{get_or-replicate, get_or-eq_default}
 use lib.Seq.{take_all, length-take-le, get_or-take, get_or-set_same, get_or-set_other, ext_get_or}
 use borrow.Author.Tests.{eqb-true, eqb-false, ltb-true, ltb-false}
 use Rattle.rules.proofs.Tests.{by-test}
-use Rattle.rules.proofs.Lists.{get_d_any}
 use Rattle.fields.specs.Fields.{fields, field_length, EndsAt, Placed}
 use Rattle.fields.proofs.Fields.{At, at-start, at_next, value-here, last-here, field-here}
+
+-- within a list, what stands for a missing element does not matter
+pub get_d_any : {A : Type 0} (l : List A) (i : ℕ) (d e : A) → i < length l → get_or l i d ≡ get_or l i e
+get_d_any [] i d e h = absurd (omega arith)
+get_d_any (x ∷ l) zero d e h = refl
+get_d_any (x ∷ l) (suc i) d e h = get_d_any l i d e (omega arith)
 
 -- over places that all held one value, a value that is missing is that one
 pub placed_at : {A : Type 0} (d : A) (vs v : List A) (n : ℕ) (e : A) → Placed d vs (replicate n e) v

@@ -1,4 +1,5 @@
 // A line of text cut into fields at a separator.
+#![tactic(auto)]
 
 ghost use Rattle.std.specs.Prelude.{◌≤◌, length};
 ghost use Rattle.fields.specs.Fields.{EndsAt};

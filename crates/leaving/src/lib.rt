@@ -1,4 +1,5 @@
 // Who leaves: what an accepted reply and abort do to the queues.
+#![tactic(auto)]
 
 ghost use Rattle.std.specs.Prelude.{◌≡◌, ◌<◌, length};
 ghost use Rattle.rules.specs.Limits.{max_clusters, max_clients};

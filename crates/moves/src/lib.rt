@@ -1,5 +1,6 @@
 // The moves that events are made of, on the queues by value: refill, pick, and a front that joins the global queue.
 // Each promises to leave the shown form of what the rules say, of whatever state the queues show.
+#![tactic(auto)]
 
 ghost use Rattle.std.specs.Prelude.{◌≡◌, ◌<◌, length};
 ghost use Rattle.rules.specs.Limits.{max_clusters, max_clients};

@@ -1,4 +1,5 @@
 // Who is where: in line or room, in the background queue, in service. The tests that answers go by.
+#![tactic(auto)]
 
 ghost use Rattle.std.specs.Prelude.{◌≡◌, ◌<◌};
 ghost use Rattle.rules.specs.Limits.{max_clients};

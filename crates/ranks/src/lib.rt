@@ -1,5 +1,6 @@
 // Rank, from one reading of a client's key: the highest in rank of a set, and the best m of it. A set is walked by its
 // members.
+#![tactic(auto)]
 
 ghost use Rattle.std.specs.Prelude.{◌≡◌, Bool, true, false, cond, ℕ, ◌≤◌, ◌<◌, get_or};
 ghost use Rattle.std.proofs.Math.Option.{some};

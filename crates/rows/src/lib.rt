@@ -1,4 +1,5 @@
 // What is read of a gate's parts: a client's row, a cluster's size, a line.
+#![tactic(auto)]
 
 ghost use Rattle.std.specs.Prelude.{◌≡◌, ◌<◌, eqb, length, get_or};
 ghost use Rattle.rules.specs.Limits.{max_clusters, max_clients};

@@ -1,4 +1,5 @@
 // Who is in service, and as what: every reading of the server.
+#![tactic(auto)]
 
 ghost use Rattle.std.specs.Prelude.{◌≡◌, cond, length};
 ghost use Rattle.rules.specs.Limits.{max_clients};

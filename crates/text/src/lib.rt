@@ -1,4 +1,6 @@
 // Text in a lent buffer: bytes and numbers, each written from a place on. A caller sees to it that there is room.
+#![tactic(auto)]
+
 mod numbers;
 
 ghost use Rattle.std.specs.Prelude.{◌∷◌, [], ◌++◌, ◌≡◌, ◌+◌, ◌≤◌, ◌<◌, length, take};
