@@ -50,7 +50,10 @@ fn try_input<W: Write, E: Write>(input: &[u8], stdout: &mut W, stderr: &mut E)
 {
     let asked = room_in(input);
     let Asked::Room(room, start) = asked else {
-        streams::tell(stderr, b"the input does not begin with a room from 0 to 65535 and a line feed\n");
+        streams::tell(
+            stderr,
+            b"the input does not begin with a room from 0 to 65535 and a line feed\n",
+        );
         return;
     };
     print_tried(&input[start..], room, stdout, stderr);
