@@ -4,10 +4,9 @@
 use Prim.Native.Nat.{ℕ, ◌<◌}
 use mathlib.Core.Bool.{Bool, cond, false, true}
 use mathlib.Core.List.{List}
-use mathlib.Core.Option.{Option}
 use mathlib.Core.Path.{◌∙◌, ◌≡◌, ap, refl, sym}
 use lib.ListN.{set}
-use Rattle.rules.specs.Events.{abort, answered, due_by, invoke, ready, reply}
+use Rattle.rules.specs.Events.{abort, due_by, invoke, ready, reply}
 use Rattle.rules.specs.Limits.{max_clients}
 use Rattle.rules.specs.Lists.{upd}
 use Rattle.rules.specs.Queues.{pick}

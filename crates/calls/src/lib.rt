@@ -1,5 +1,6 @@
 // Invoke, reply, ready and abort on a gate's parts. Each answers as the rules do, and leaves the parts that show the
 // state after: a refused event leaves them as they were. Only invoke has to do with the charges.
+#![tactic(auto)]
 
 mod deadlines;
 

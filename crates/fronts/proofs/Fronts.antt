@@ -23,12 +23,12 @@ use Rattle.gate.specs.declared.Line.{Line}
 use Rattle.gate.specs.declared.Setup.{Setup}
 use Rattle.gate.specs.Shown.{setup_of, blank_line}
 use Rattle.parts.specs.Shows.{Fine}
-use Rattle.seen.proofs.Once.{flip}
 use Rattle.soundness.specs.Clauses.{of_cluster, lines_sound}
 use Rattle.soundness.proofs.Facts.{OfCluster, lines-facts}
 use Rattle.soundness.proofs.Sets.{members}
 use Rattle.serving.specs.Service.{as_front, as_spent}
 use Rattle.standing.specs.Answers.{lines_in}
+use Rattle.standing.proofs.Once.{flip}
 use Rattle.fronts.specs.Answers.{firsts_of, queued_of}
 use Rattle.setup_check.proofs.Members.{clients, own_is}
 

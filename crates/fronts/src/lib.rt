@@ -7,8 +7,8 @@ ghost use Rattle.parts.specs.Shows.{Homes};
 ghost use Rattle.fronts.specs.Answers.{firsts_of, queued_of, global_fits, server_fits};
 
 use gate::{Gate, Line, Server};
-use seen::Seen;
 use setup_check::Clients;
+use standing::Seen;
 
 // THE GLOBAL QUEUE
 
@@ -46,7 +46,7 @@ pub fn queued(homes: &[u8; 64], own: [u64; 8], server: Server, fronts: u64) -> u
 pub fn global_sound(q: &[u8], fronts: u64) -> bool
     ensures { result ≡ global_fits fronts q.now }
 {
-    let Seen::Once(queue) = seen::queue_seen(q, fronts, 0) else {
+    let Seen::Once(queue) = standing::queue_seen(q, fronts, 0) else {
         return false;
     };
     queue == fronts

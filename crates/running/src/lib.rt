@@ -1,4 +1,5 @@
 // Run on a gate's parts: its answers, and the charges of an accepted one.
+#![tactic(auto)]
 
 ghost use Rattle.std.specs.Prelude.{◌≡◌, ◌+◌, ◌≤◌, ltb};
 ghost use Rattle.rules.specs.Limits.{max_clusters, max_cap};

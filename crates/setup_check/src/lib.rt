@@ -1,4 +1,5 @@
 // A setup: whether it is sound, and its clients as sets.
+#![tactic(auto)]
 
 ghost use Rattle.std.specs.Prelude.{◌≡◌, ◌+◌, ◌≤◌, ◌<◌, get_or, drop};
 ghost use Rattle.rules.specs.Limits.{max_clusters, max_clients};

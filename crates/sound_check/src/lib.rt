@@ -7,7 +7,7 @@ ghost use Rattle.soundness.specs.Clauses.{sound_of};
 ghost use Rattle.sound_check.specs.Answers.{charge_fits, charges_fit, deadline_fits, deadlines_fit};
 
 use gate::Gate;
-use seen::Seen;
+use standing::Seen;
 
 // CHARGES
 
@@ -100,7 +100,7 @@ pub fn sound(g: Gate) -> bool
     let Seen::Once(seen) = standing::lines_seen(&s.sizes, own, lines) else {
         return false;
     };
-    let Seen::Once(stand) = seen::queue_seen(&g.background, clients.effort, seen) else {
+    let Seen::Once(stand) = standing::queue_seen(&g.background, clients.effort, seen) else {
         return false;
     };
     let rooms = g.rooms;

@@ -21,7 +21,6 @@ use Rattle.rules.proofs.Lists.{heads-has}
 use Rattle.sets.specs.Sets.{member, set_of}
 use Rattle.sets.proofs.Laws.{set_of-below, set_of-cut, member-set_of, set_of-none}
 use Rattle.places.specs.Places.{pad}
-use Rattle.places.proofs.Tests.{and_both, has-every, at_all, is-distinct}
 use Rattle.gate.specs.declared.Setup.{Setup}
 use Rattle.gate.specs.Shown.{setup_of, show_rooms, table, shown}
 use Rattle.parts.specs.Shows.{Shows}
@@ -31,6 +30,7 @@ use Rattle.soundness.specs.Tests.{set_in, first_in}
 use Rattle.soundness.specs.Clauses.{of_cluster, everyone}
 use Rattle.soundness.specs.Clauses.{room_sound, rooms_sound, global_sound, server_sound, charge_sound, charges_sound}
 use Rattle.soundness.specs.Clauses.{deadline_sound, deadlines_sound}
+use Rattle.soundness.proofs.Tests.{and_both, has-every, at_all, is-distinct}
 use Rattle.soundness.proofs.Sets.{set-has}
 use Rattle.soundness.proofs.Facts.{Clauses, in-cluster}
 use Rattle.soundness.proofs.ShownStands as stands

@@ -1,5 +1,5 @@
--- Loops over places, lines and rooms, and who is seen in them.
-pub mod LinePlaces
+-- Loops over places, lines, queues and rooms, and who is seen in them.
+pub mod Queues
 pub mod Once
 pub mod Shape
 pub mod LineTurns

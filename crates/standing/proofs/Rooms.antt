@@ -1,25 +1,33 @@
--- A waiting room as a word: an empty one, and the clause of the definition.
+-- A waiting room as a word: an empty one, and the clause of the definition. A line's length by its used places.
 -- Assumes nothing.
-use Prim.Native.Nat.{ℕ, ◌^◌, ◌≤◌, ◌<◌}
+use Prim.Native.Nat.{ℕ, suc, ◌^◌, ◌≤◌, ◌<◌}
 use mathlib.Core.Path.{◌≡◌, refl, sym, ap, ◌∙◌}
 use mathlib.Core.Bool.{Bool, true, false, not, ◌&&◌}
-use mathlib.Core.List.{List}
+use mathlib.Core.List.{List, [], ◌∷◌}
 use native.Mathlib.Nat.{lt_of_lt_of_le}
 use native.Mathlib.Omega.{arith}
 use lib.Dec.{eqb, ltb}
+use lib.ListN.{length}
 use lib.Pow.{pow_mono}
 use borrow.Author.Tests.{eqb-true, ltb-true, lt-ltb, not-false}
-use Rattle.rules.specs.Limits.{max_clients}
+use Rattle.rules.specs.Limits.{max_clients, unused_place}
 use Rattle.rules.specs.Setup as rules
 use Rattle.rules.proofs.Tests.{by-test, same_test, both_true, not_so}
 use Rattle.sets.specs.Sets.{member, less_of}
 use Rattle.sets.proofs.Bits.{member-none}
 use Rattle.sets.proofs.Laws.{member-set_of, set_of-none, set_of-cut, set_of-below, set_of-member}
-use Rattle.places.specs.Tests.{all_below}
-use Rattle.places.proofs.Tests.{at_all}
+use Rattle.places.specs.Places.{unpad, place_of, used_of}
+use Rattle.soundness.specs.Tests.{all_below}
 use Rattle.soundness.specs.Clauses.{of_cluster, may_wait, room_sound}
+use Rattle.soundness.proofs.Tests.{at_all}
 use Rattle.soundness.proofs.Facts.{of-cluster, in-cluster, room-facts}
 use Rattle.standing.specs.Answers.{room_fits}
+
+-- the used places are as many as the list that they hold is long
+pub used-unpad : (q : List ℕ) → used_of q ≡ length (unpad q)
+unfolding place_of unpad
+used-unpad [] = refl
+used-unpad (x ∷ q) = by-test (eqb x unused_place) (λ e. rw e) (λ e. rw e (ap suc (used-unpad q)))
 
 pub room-empty : (m own standing : ℕ) (line : List ℕ) → room_fits m own standing line 0 ≡ true
 unfolding room_fits

@@ -1,15 +1,20 @@
-// The lines and the waiting rooms: whether they are sound, and who stands there.
+// The lines, the queues and the waiting rooms: whether they are sound, and who stands there.
 
 ghost use Rattle.std.specs.Prelude.{◌≡◌, ◌&&◌, ltb};
 ghost use Rattle.sets.specs.Sets.{member};
 ghost use Rattle.places.specs.Places.{unpad};
-ghost use Rattle.seen.specs.Seen.{seen_of};
-ghost use Rattle.standing.specs.Answers.{lines_seen, room_fits, rooms_fit};
+ghost use Rattle.standing.specs.Answers.{seen_of, lines_seen, queue_seen, room_fits, rooms_fit};
 
 use gate::{Gate, Line};
-use seen::Seen;
 
-// LINES
+// Who is seen in lines or a queue, each of them once; or that something there is not sound.
+#[derive(Clone, Copy)]
+pub enum Seen {
+    Unsound,
+    Once(u64),
+}
+
+// LINES AND QUEUES
 
 // Client c may stand at a place of a line of m, whose cluster's clients are given.
 fn may_stand(m: usize, own: u64, at: usize, c: usize) -> bool
@@ -56,6 +61,32 @@ pub fn lines_seen(sizes: &[u8; 8], own: [u64; 8], lines: [Line; 8]) -> Seen
         k += 1;
     }
     Seen::Unsound
+}
+
+// Everyone in a queue of those who may stand there, added to a set of others.
+pub fn queue_seen(q: &[u8], known: u64, others: u64) -> Seen
+    ensures { seen_of result ≡ queue_seen (member known) q.now others }
+{
+    let mut everyone: u64 = others;
+    let mut i: usize = 0;
+    while i < q.len() {
+        if q[i] == places::UNUSED {
+            break;
+        }
+        let c = gate::wide(q[i]);
+        if !sets::member(known, c) {
+            return Seen::Unsound;
+        }
+        if sets::member(everyone, c) {
+            return Seen::Unsound;
+        }
+        everyone = sets::with(everyone, c);
+        i += 1;
+    }
+    if !places::holds_only_from(q, i, places::UNUSED) {
+        return Seen::Unsound;
+    }
+    Seen::Once(everyone)
 }
 
 // WAITING ROOMS

@@ -1,8 +1,8 @@
 -- A trace out of an input that comes in parts: what is held between them.
 -- Assumes nothing.
-use Rattle.std.specs.Prelude.{ℕ, suc, List, [], ◌∷◌, length, take}
+use Rattle.std.specs.Prelude.{ℕ, suc, ◌-◌, List, [], ◌∷◌, ◌++◌, length, take, replicate}
 use Rattle.lines.specs.Lines.{max_line}
-use Rattle.lines.specs.Input.{Read, held_to, room_with, read_from, leads_to}
+use Rattle.lines.specs.Input.{Read, held_to, read_from, leads_to}
 use Rattle.tracing.specs.declared.Trace.{Trace}
 use Rattle.tracing.specs.Tracing.{none_read, taken}
 use Rattle.traces.specs.declared.Held.{Held}
@@ -12,9 +12,13 @@ use Rattle.traces.specs.declared.Standing.{Standing}
 abbrev pub room_bytes : ℕ
 room_bytes = suc max_line
 
+-- the room with some bytes in it: zeros behind them
+abbrev pub room_with : List ℕ → List ℕ
+room_with s = s ++ replicate (room_bytes - length s) 0
+
 -- what was read, with the line that has begun in a room
 abbrev pub stored : Read Trace → Held
-stored r = record { trace = r.state; room = room_with room_bytes r.rest; n = length r.rest }
+stored r = record { trace = r.state; room = room_with r.rest; n = length r.rest }
 
 -- what is held: of the line that has begun no more than has room
 abbrev pub held_of : Read Trace → Held

@@ -5,7 +5,7 @@ use mathlib.Core.Path.{sym, ap, ◌∙◌}
 use mathlib.Core.Option.{Option}
 use borrow.Author.Rules.{rules}
 use lib.Dec.{eqb}
-use Rattle.seen.specs.Seen.{seen_of}
+use Rattle.standing.specs.Answers.{seen_of}
 use Rattle.fronts.specs.Answers.{then_test}
 use Rattle.fronts.proofs.global_sound.Statement.{statement}
 use Rattle.fronts.proofs.global_sound.Tie as tie

@@ -10,8 +10,8 @@ use lib.ListN.{length, get_or}
 use borrow.Author.Tests.{not-true, not-false, eq-eqb}
 use borrow.Author.Rules.{rules}
 use Rattle.rules.specs.Limits.{max_clients}
-use Rattle.places.specs.Tests.{all_below}
-use Rattle.places.proofs.Tests.{all_none, all_more, all-not, all_done}
+use Rattle.soundness.specs.Tests.{all_below}
+use Rattle.soundness.proofs.Tests.{all_none, all_more, all-not, all_done}
 use Rattle.sound_check.specs.Answers.{charge_fits, charges_fit}
 use Rattle.sound_check.proofs.charges_sound.Statement.{statement}
 use Rattle.sound_check.proofs.charges_sound.Tie as tie

@@ -13,9 +13,8 @@ use Rattle.rules.specs.State.{cap_of}
 use Rattle.gate.specs.declared.Gate.{Gate}
 use Rattle.gate.specs.Shown.{setup_of, server_of}
 use Rattle.parts.specs.Shows.{Homes}
-use Rattle.seen.specs.Seen.{seen_of}
 use Rattle.soundness.specs.Clauses.{setup_sound, sound_of}
-use Rattle.standing.specs.Answers.{lines_seen}
+use Rattle.standing.specs.Answers.{seen_of, lines_seen}
 use Rattle.fronts.specs.Answers.{firsts_of, queued_of, server_fits}
 use Rattle.setup_check.proofs.Members.{clients}
 use Rattle.sound_check.proofs.Rest.{Lengths, passes, fails, accounts_fit, rest_fits}

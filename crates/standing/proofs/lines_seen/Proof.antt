@@ -13,16 +13,13 @@ use Rattle.rules.specs.Limits.{max_clusters, max_size, unused_place}
 use Rattle.sets.specs.Sets.{member}
 use Rattle.places.specs.Places.{unpad}
 use Rattle.gate.specs.Shown.{blank_line}
-use Rattle.seen.specs.Seen.{seen_from}
-use Rattle.seen.proofs.Queues.{Ended, ended_here, ended-past}
-use Rattle.soundness.specs.Tests.{joined}
+use Rattle.soundness.specs.Tests.{all_below, joined}
 use Rattle.places.specs.Places.{holds_only}
-use Rattle.places.specs.Tests.{all_below}
-use Rattle.places.proofs.Tests.{all_none, all_more, all_done}
-use Rattle.standing.specs.Answers.{lines_in, line_fits}
+use Rattle.standing.specs.Answers.{lines_in, line_fits, seen_from}
 use Rattle.standing.proofs.Shape.{lines-length, lines-each}
-use Rattle.standing.proofs.LinePlaces.{line_rest, line-start, line-turn, line-bad, line-end}
-use Rattle.standing.proofs.LinePlaces.{stands-below, stands-new, stands-twice}
+use Rattle.soundness.proofs.Tests.{all_none, all_more, all_done}
+use Rattle.standing.proofs.Queues.{Ended, ended_here, ended-past, line_rest, line-start, line-turn, line-bad}
+use Rattle.standing.proofs.Queues.{line-end, stands-below, stands-new, stands-twice}
 use Rattle.standing.proofs.LineTurns.{joined-turn, joined_end, fits, line-fails, seen-fails, lines-pass}
 use Rattle.standing.proofs.lines_seen.Statement.{statement}
 use Rattle.standing.proofs.lines_seen.Tie as tie

@@ -7,9 +7,8 @@ use borrow.Author.Tests.{eq-eqb, ne_eqb, lt-ltb}
 use borrow.Author.Rules.{rules}
 use Rattle.sets.specs.Sets.{less_of}
 use Rattle.places.specs.Places.{unpad}
-use Rattle.places.proofs.Queues.{used-unpad}
 use Rattle.standing.specs.Answers.{room_fits}
-use Rattle.standing.proofs.Rooms.{room-empty}
+use Rattle.standing.proofs.Rooms.{room-empty, used-unpad}
 use Rattle.standing.proofs.room_sound.Statement.{statement}
 use Rattle.standing.proofs.room_sound.Tie as tie
 

@@ -10,10 +10,10 @@ use lib.ListN.{length, get_or}
 use borrow.Author.Tests.{not-true, not-false, eq-eqb}
 use borrow.Author.Rules.{rules}
 use Rattle.rules.specs.Limits.{max_clusters}
-use Rattle.places.specs.Tests.{all_below}
-use Rattle.places.proofs.Tests.{all_none, all_more, all-not, all_done}
 use Rattle.gate.specs.declared.Line.{Line}
+use Rattle.soundness.specs.Tests.{all_below}
 use Rattle.standing.specs.Answers.{lines_in}
+use Rattle.soundness.proofs.Tests.{all_none, all_more, all-not, all_done}
 use Rattle.standing.specs.Answers.{room_fits, rooms_fit}
 use Rattle.standing.proofs.rooms_sound.Statement.{statement}
 use Rattle.standing.proofs.rooms_sound.Tie as tie

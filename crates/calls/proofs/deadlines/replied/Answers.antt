@@ -4,7 +4,6 @@ use Prim.Native.Nat.{ℕ, ◌<◌}
 use mathlib.Core.Bool.{Bool, true, false}
 use mathlib.Core.List.{List}
 use mathlib.Core.Path.{◌∙◌, ◌≡◌, refl, sym}
-use borrow.Author.Rules.{rules}
 use Rattle.rules.proofs.Tests.{clash}
 use Rattle.rules.specs.Limits.{max_clients}
 use Rattle.rules.specs.State.{Server, idle, front, best, spent, tidying}
@@ -12,8 +11,7 @@ use Rattle.gate.specs.Shown.{server_of}
 use Rattle.parts.specs.Shows.{ServerFits}
 use Rattle.serving.specs.Service.{as_front, served_by}
 use Rattle.calls.specs.Due.{due_in, replied_in}
-use Rattle.calls.proofs.deadlines.replied.Statement.{statement}
-use Rattle.calls.proofs.deadlines.replied.Tie as tie
+use Rattle.calls.proofs.deadlines.replied.Goals as goal
 
 front_fits : (x : Server) → as_front x ≡ true → ServerFits x → served_by x < max_clients
 front_fits idle e f = clash e refl
@@ -37,34 +35,21 @@ other-due timed ks (best c) e = refl
 other-due timed ks (spent c) e = refl
 other-due timed ks tidying e = refl
 
-as-front-requires : tie.Need-as-front-requires
-as-front-requires c κs = search rules
-
-served-requires : tie.Need-served-requires
-served-requires c κs = search rules
-
-due-requires : tie.Need-due-requires
-due-requires c κs =
-    let b = c.before.before in
+pub due-requires : goal.due-requires
+due-requires c =
     rw c.served.ensures
-    (front_fits (server_of b.before.before.args.server) (sym b.before.as-front.ensures ∙ b.if1.true)
-    b.before.before.requires)
+    (front_fits (server_of c.args.server) (sym c.as_front.ensures ∙ c.if-as_front.true)
+    c.requires)
 
-returns : tie.Need-returns
-returns c =
-    let b = c.before.before.before in
-    let a = b.before.before.args in
-    let z : due_in a.timed c.before.served.result.0 0 a.keys.now
-    ≡ due_in a.timed (served_by (server_of a.server)) 0 a.keys.now = rw c.before.served.ensures in
+pub returns-then-as_front : goal.returns-then-as_front
+returns-then-as_front c =
+    let a = c.args in
+    let z : due_in a.timed c.served.result.0 0 a.keys.now
+    ≡ due_in a.timed (served_by (server_of a.server)) 0 a.keys.now = rw c.served.ensures in
     c.due.ensures ∙ z
-    ∙ front-due a.timed a.keys.now (server_of a.server) (sym b.before.as-front.ensures ∙ b.if1.true)
+    ∙ front-due a.timed a.keys.now (server_of a.server) (sym c.as_front.ensures ∙ c.if-as_front.true)
 
-returns-2 : tie.Need-returns-2
-returns-2 c =
-    let s = c.before.before in
-    other-due s.args.timed s.args.keys.now (server_of s.args.server)
-    (sym c.before.as-front.ensures ∙ c.if1.false)
-
-pub replied-spec : {M : Type 1} → statement M
-replied-spec =
-    tie.close (tie.spec as-front-requires served-requires due-requires returns returns-2)
+pub returns-else-as_front : goal.returns-else-as_front
+returns-else-as_front c =
+    other-due c.args.timed c.args.keys.now (server_of c.args.server)
+    (sym c.as_front.ensures ∙ c.if-as_front.false)

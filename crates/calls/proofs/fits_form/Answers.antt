@@ -8,8 +8,7 @@ use borrow.Author.Tests.{le-leb}
 use Rattle.rules.specs.Limits.{max_deadline}
 use Rattle.rules.specs.Step.{fit_form}
 use Rattle.calls.specs.Due.{form_in}
-use Rattle.calls.proofs.fits_form.Statement.{statement}
-use Rattle.calls.proofs.fits_form.Tie as tie
+use Rattle.calls.proofs.fits_form.Goals as goal
 
 fits : (timed dated : Bool) (d : ℕ) → d ≤ max_deadline → cond timed dated (not dated) ≡ fit_form timed (form_in dated d)
 fits true true d b = rw (le-leb d max_deadline b)
@@ -17,17 +16,14 @@ fits true false d b = refl
 fits false true d b = refl
 fits false false d b = refl
 
-returns : tie.Need-returns
+pub returns-then-timed : goal.returns-then-timed
+returns-then-timed c =
+    let a = c.args in
+    let bits : a.deadline ≤ 4294967295 = search rules in
+    rw c.if-timed.true (fits true a.dated a.deadline bits)
+
+pub returns : goal.returns
 returns c =
-    let a = c.before.args in
+    let a = c.args in
     let bits : a.deadline ≤ 4294967295 = search rules in
-    rw c.if1.true (fits true a.dated a.deadline bits)
-
-returns-2 : tie.Need-returns-2
-returns-2 c =
-    let a = c.before.args in
-    let bits : a.deadline ≤ 4294967295 = search rules in
-    rw c.if1.false (fits false a.dated a.deadline bits)
-
-pub fits-form-spec : {M : Type 1} → statement M
-fits-form-spec = tie.close (tie.spec returns returns-2)
+    rw c.if-timed.false (fits false a.dated a.deadline bits)
