@@ -3,3 +3,4 @@ pub mod Cases
 pub mod WholeCases
 pub mod Standings
 pub mod Tests
+pub mod Known

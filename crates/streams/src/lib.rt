@@ -3,11 +3,11 @@
 
 #![tactic(auto)]
 
-ghost use Rattle.std.specs.Prelude.{◌≡◌, ◌≤◌, length, true, pos, negsuc, MatchResult};
+ghost use Rattle.std.specs.Prelude.{◌≡◌, ◌≤◌, length, take, drop, true, pos, negsuc, MatchResult};
 ghost use Rattle.std.specs.Io.{ReadsAtMost};
 ghost use Rattle.std.specs.Io.KnownBytes.{Appends};
-ghost use Rattle.streams.specs.Got.{got_in, Within};
-ghost use Rattle.streams.specs.Whole.{Holds, Adds, standing_after};
+ghost use Rattle.streams.specs.Got.{got_in, Within, Reads};
+ghost use Rattle.streams.specs.Whole.{Holds, Adds, ReadsWhole, standing_after};
 
 use std::io::{Read, Result, Write};
 
@@ -35,7 +35,8 @@ pub enum Standing {
 
 // Reads once: how many bytes came to the start of a part, or that the input has ended or can't be read.
 pub fn read_some<R: Read>(input: &mut R, part: &mut [u8]) -> Got
-    ensures { Within part.new result }
+    ensures within { Within part.new result }
+    ensures bytes { Reads (R.remaining input.old) (R.remaining input.new) part.new result }
 {
     let answer = answer_of(input.read(part), part);
     got_in(answer, part)
@@ -69,7 +70,8 @@ fn got_in(answer: isize, part: &[u8]) -> Got
 
 // Reads to the end of an input, or as far as the room goes.
 pub fn read_whole<R: Read>(input: &mut R, room: &mut [u8]) -> Whole
-    ensures { Holds room.new result }
+    ensures holds { Holds room.new result }
+    ensures bytes { ReadsWhole (R.remaining input.old) (R.remaining input.new) room.new result }
 {
     let mut n: usize = 0;
     while n < room.len() {
@@ -90,7 +92,9 @@ pub fn read_whole<R: Read>(input: &mut R, room: &mut [u8]) -> Whole
 // One read into the room behind the n bytes that are held.
 fn read_behind<R: Read>(input: &mut R, room: &mut [u8], n: usize) -> Got
     requires { n ≤ length room.old }
-    ensures { Adds n (length room.old) result }
+    ensures adds { Adds n (length room.old) result }
+    ensures front { take n room.new ≡ take n room.old }
+    ensures bytes { Reads (R.remaining input.old) (R.remaining input.new) (drop n room.new) result }
 {
     read_some(input, &mut room[n..])
 }

@@ -2,5 +2,5 @@
 use Rattle.std.proofs.Common.{arith}
 use Rattle.streams.proofs.read_behind.Goals as goal
 
-pub returns : goal.returns
-returns g c = λ k e. let h = c.read_some.ensures k e in (omega (arith, h.0.0), h.1)
+pub returns-clause-adds : goal.returns-clause-adds
+returns-clause-adds g c = λ k e. let h = c.read_some.ensures.within k e in (omega (arith, h.0.0), h.1)
