@@ -1,4 +1,5 @@
 // The fronts: who is in the global queue, and who is in service.
+#![tactic(auto)]
 
 ghost use Rattle.std.specs.Prelude.{◌≡◌};
 ghost use Rattle.rules.specs.Limits.{max_clusters};

@@ -10,15 +10,14 @@ use denote.Laws.{Is}
 use denote.Array.{each, Array}
 use denote.Shadow.{shadow}
 use denote.Struct.Declared.{row}
-use borrow.Author.Rules.{length_unmapped}
 use Rattle.gate.specs.declared.Line.{Line}
 use Rattle.gate.specs.contracts.Line.{the_type}
 
 pub line-length : (l : Line) (vs : List Val) → Is (row the_type) l vs → length l.places ≡ 8
-line-length l vs h = length_unmapped ℕ l.places 8 h.1.1.0.1.0.1
+line-length l vs h = h.1.1.0.1.0.1
 
 each-length : (ls : List Line) (us : List Val) (i : ℕ) (d : Line) → i < length ls
-    → shadow (each Line (row the_type).own ls us) → length (get_or ls i d).places ≡ 8
+    → shadow (each Line (row the_type).own_val ls us) → length (get_or ls i d).places ≡ 8
 each-length [] us i d l p = absurd (not-suc-le-zero l)
 each-length (x ∷ xs) [] i d l p = absurd p
 each-length (x ∷ xs) (u ∷ us) zero d l p = line-length x (u ∷ []) p.0

@@ -1,4 +1,5 @@
 // The lines, the queues and the waiting rooms: whether they are sound, and who stands there.
+#![tactic(auto)]
 
 ghost use Rattle.std.specs.Prelude.{◌≡◌, ◌&&◌, ltb};
 ghost use Rattle.sets.specs.Sets.{member};
