@@ -1,6 +1,8 @@
 -- What reads do to the bytes that an input still has, where those are known.
 -- Assumes nothing.
-use Rattle.std.proofs.Common.{ℕ, ◌+◌, ◌≤◌, ◌≡◌, ℤ, pos, negsuc, List, ◌++◌, length, take, drop, Bool, true, false, eqb, refl, sym, ap, ◌∙◌, subst, arith, rules, tests, Result, Ok, Err, MatchResult, eqb-true, None, Some, take-add, length-drop}
+use Rattle.std.proofs.Common.{ℕ, ◌+◌, ◌≤◌, ◌≡◌, ℤ, pos, negsuc, List, ◌++◌, length, take}
+use Rattle.std.proofs.Common.{drop, Bool, true, false, eqb, refl, sym, ap, ◌∙◌, subst, arith}
+use Rattle.std.proofs.Common.{rules, tests, Result, Ok, Err, MatchResult, eqb-true, None, Some, take-add, length-drop}
 use Rattle.std.proofs.Math.Nat.{min-eq_left}
 use Rattle.std.specs.declared.option.Option.{Option}
 use Rattle.std.specs.Int.Signed.{lt_z}
@@ -51,7 +53,8 @@ reads old new part (Err e) answer fits did same =
     (subst (Reads old new part) (failed (negsuc 0) _ refl) did)
 
 -- what is held, and what came behind it
-joined : (n k : ℕ) (room new : List ℕ) → take n new ≡ take n room → take n room ++ take k (drop n new) ≡ take (n + k) new
+joined : (n k : ℕ) (room new : List ℕ) → take n new ≡ take n room
+    → take n room ++ take k (drop n new) ≡ take (n + k) new
 joined n k room new front = ap (λ l. l ++ take k (drop n new)) (sym front) ∙ sym (take-add n k new)
 
 -- where there may be more, what is held then is what the input has lost

@@ -14,6 +14,7 @@ pub ended : (x : ℤ) (most n : ℕ) → lt_z x (pos 0) ≡ false → n ≡ clam
 unfolding got_in
 ended x most n positive e none = rw (positive, ← e, none)
 
-pub came : (x : ℤ) (most n : ℕ) → lt_z x (pos 0) ≡ false → n ≡ clamp_len x most → eqb n 0 ≡ false → Bytes n ≡ got_in x most
+pub came : (x : ℤ) (most n : ℕ) → lt_z x (pos 0) ≡ false → n ≡ clamp_len x most → eqb n 0 ≡ false
+    → Bytes n ≡ got_in x most
 unfolding got_in
 came x most n positive e some = rw (positive, ← e, some)
