@@ -1,5 +1,7 @@
 // Tries the doors on gates from standard input. A case is a gate's bytes and those of a record, as the newest logs have
 // it; its line is 1 if the gate is sound, else 0, the answer, and each byte that the step changed.
+#![tactic(auto)]
+
 mod bytes;
 mod gates;
 
@@ -9,7 +11,7 @@ use bytes::byte_of;
 use gate::Gate;
 use gates::{GATE, gate_in};
 use layout::{byte_at, double_at, word_at};
-use libc::STDIN_FILENO;
+use std::io::{Read, Write};
 use step::Answered;
 use streams::Whole;
 use text::{LF, SPACE, put_byte, put_number, wide, wide_size};
@@ -24,16 +26,19 @@ const LINE: usize = 22 + 42 * GATE + 1;
 
 const EQUALS: u8 = 61;
 
-fn main() {
-    answer_all();
+fn main(rt: HostRuntime) {
+    let mut stdin = rt.stdin();
+    let mut stdout = rt.stdout();
+    let mut stderr = rt.stderr();
+    answer_all(&mut stdin, &mut stdout, &mut stderr);
 }
 
 // Answers each case. A proved loop has to end, and nothing says that an input does: so it counts its turns down, from a
 // number that no run uses up.
-fn answer_all() {
+fn answer_all<R: Read, W: Write, E: Write>(stdin: &mut R, stdout: &mut W, stderr: &mut E) {
     let mut turns = u64::MAX;
     while turns > 0 {
-        if !answer_next() {
+        if !answer_next(stdin, stdout, stderr) {
             return;
         }
         turns -= 1;
@@ -41,28 +46,28 @@ fn answer_all() {
 }
 
 // Reads a case and answers it, and tells whether to go on.
-fn answer_next() -> bool {
+fn answer_next<R: Read, W: Write, E: Write>(stdin: &mut R, stdout: &mut W, stderr: &mut E) -> bool {
     let mut case = [0u8; CASE];
-    let whole = streams::read_whole(STDIN_FILENO, &mut case);
+    let whole = streams::read_whole(stdin, &mut case);
     let Whole::Bytes(n) = whole else {
-        streams::tell_unread();
+        streams::tell_unread(stderr);
         return false;
     };
     if n == 0 {
         return false;
     }
     if n < CASE {
-        streams::tell(b"the last case is cut short\n");
+        streams::tell(stderr, b"the last case is cut short\n");
         return false;
     }
-    answer(&case)
+    answer(&case, stdout, stderr)
 }
 
 // Writes the line of a case, and tells whether that could be done.
-fn answer(case: &[u8]) -> bool {
+fn answer<W: Write, E: Write>(case: &[u8], stdout: &mut W, stderr: &mut E) -> bool {
     let mut out = [0u8; LINE];
     let k = put_case(&mut out, case);
-    streams::write_out(&out[..k])
+    streams::write_out(stdout, stderr, &out[..k])
 }
 
 // 1 if a gate is sound, else 0.

@@ -1,11 +1,15 @@
 // Reads events of a group from standard input, one a line, from the group that nobody has entered, and writes a line
 // for each: `INDEX ANSWER` and a field for each context. The first malformed line gives `malformed LINE`, and is the
 // last that is read.
+#![tactic(auto)]
+
 use group_lines::{OUT, PART};
-use libc::STDIN_FILENO;
 use streams::Got;
 
-fn main() {
+fn main(rt: HostRuntime) {
+    let mut stdin = rt.stdin();
+    let mut stdout = rt.stdout();
+    let mut stderr = rt.stderr();
     let mut part = [0u8; PART];
     let mut out = [0u8; OUT];
     let mut held = group_lines::none_held();
@@ -13,12 +17,12 @@ fn main() {
     // run uses up.
     let mut turns = u64::MAX;
     while turns > 0 {
-        let got = streams::read_some(STDIN_FILENO, &mut part);
+        let got = streams::read_some(&mut stdin, &mut part);
         match got {
             Got::Bytes(k) => {
                 held = group_lines::read_part(held, &part, k, &mut out);
                 let used = held.used;
-                if !streams::write_out(&out[..used]) {
+                if !streams::write_out(&mut stdout, &mut stderr, &out[..used]) {
                     return;
                 }
                 let run = held.run;
@@ -28,11 +32,11 @@ fn main() {
             }
             Got::End => {
                 let used = group_lines::read_end(held, &mut out);
-                streams::write_out(&out[..used]);
+                streams::write_out(&mut stdout, &mut stderr, &out[..used]);
                 return;
             }
             Got::Failed => {
-                streams::tell_unread();
+                streams::tell_unread(&mut stderr);
                 return;
             }
         }

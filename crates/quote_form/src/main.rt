@@ -1,9 +1,13 @@
 // Reads orders from standard input, one a line, and writes the quote of each: `BUDGET ANSWER PLACE`.
+#![tactic(auto)]
+
 use form::{OUT, PART};
-use libc::STDIN_FILENO;
 use streams::Got;
 
-fn main() {
+fn main(rt: HostRuntime) {
+    let mut stdin = rt.stdin();
+    let mut stdout = rt.stdout();
+    let mut stderr = rt.stderr();
     let mut part = [0u8; PART];
     let mut out = [0u8; OUT];
     let mut held = form::none_held();
@@ -11,22 +15,22 @@ fn main() {
     // run uses up.
     let mut turns = u64::MAX;
     while turns > 0 {
-        let got = streams::read_some(STDIN_FILENO, &mut part);
+        let got = streams::read_some(&mut stdin, &mut part);
         match got {
             Got::Bytes(k) => {
                 held = form::answer_part(held, &part, k, &mut out);
                 let used = held.used;
-                if !streams::write_out(&out[..used]) {
+                if !streams::write_out(&mut stdout, &mut stderr, &out[..used]) {
                     return;
                 }
             }
             Got::End => {
                 let used = form::answer_end(held, &mut out);
-                streams::write_out(&out[..used]);
+                streams::write_out(&mut stdout, &mut stderr, &out[..used]);
                 return;
             }
             Got::Failed => {
-                streams::tell_unread();
+                streams::tell_unread(&mut stderr);
                 return;
             }
         }

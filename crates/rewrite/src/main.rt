@@ -1,33 +1,38 @@
 // Reads a log, has the panel's writer write it again, and puts that on standard output; or, where the log or a record
 // is refused, the refusal alone. The log is the file that the argument names, or standard input.
-use libc::STDIN_FILENO;
+#![tactic(auto)]
+
+use std::io::{Read, Write};
 use streams::Whole;
 
-fn main() {
-    let words = os::arg_count();
+fn main(rt: HostRuntime) {
+    let mut stdout = rt.stdout();
+    let mut stderr = rt.stderr();
+    let words = log_files::argument_count(&rt);
     if words > 2 {
-        streams::tell(b"usage: rewrite [LOG]\n");
+        streams::tell(&mut stderr, b"usage: rewrite [LOG]\n");
         return;
     }
     if words < 2 {
-        rewrite(STDIN_FILENO);
+        let mut stdin = rt.stdin();
+        rewrite(&mut stdin, &mut stdout, &mut stderr);
         return;
     }
-    let fd = log_files::open_argument(1);
-    if fd >= 0 {
-        rewrite(fd);
+    let opened = log_files::open_argument(&rt, &mut stderr, 1);
+    if let Some(mut file) = opened {
+        rewrite(&mut file, &mut stdout, &mut stderr);
     }
 }
 
-// Rewrites the log that a descriptor gives. Of what can't be read nothing is written.
-fn rewrite(fd: i32) {
+// Rewrites the log that an input gives. Of what can't be read nothing is written.
+fn rewrite<R: Read, W: Write, E: Write>(input: &mut R, stdout: &mut W, stderr: &mut E) {
     let mut log = [0u8; layout::MAX_LOG + 1];
-    let whole = log_files::read_log(fd, &mut log);
+    let whole = log_files::read_log(input, &mut log);
     let Whole::Bytes(n) = whole else {
-        streams::tell_unread();
+        streams::tell_unread(stderr);
         return;
     };
     let mut out = [0u8; layout::MAX_LOG];
     let k = rewriting::put_rewritten(&log[..n], &mut out);
-    streams::write_out(&out[..k]);
+    streams::write_out(stdout, stderr, &out[..k]);
 }

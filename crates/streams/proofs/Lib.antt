@@ -2,3 +2,5 @@
 pub mod Cases
 pub mod WholeCases
 pub mod Standings
+pub mod Tests
+pub mod Known

@@ -1,6 +1,8 @@
 -- What a read gives: bytes, or the end of the input, or that it can't be read.
 -- Assumes nothing.
-use Rattle.std.specs.Prelude.{ℕ, ◌<◌, ◌≡◌, cond, List, eqb, ℤ, pos}
+use Rattle.std.specs.Prelude.{ℕ, ◌<◌, ◌≡◌, cond, List, length, take, eqb, ℤ, pos}
+use Rattle.std.specs.declared.option.Option.{Option}
+use Rattle.std.specs.Io.KnownBytes.{Consumes, Keeps, IsAtEnd}
 use Rattle.std.specs.Int.Signed.{lt_z}
 use Rattle.io.specs.Counts.{IsPrefixLen, clamp_len}
 use Rattle.streams.specs.declared.Got.{Got}
@@ -16,3 +18,10 @@ got_in answer most =
 -- where bytes came, they are some, and lie within the part
 abbrev pub Within : List ℕ → Got → Type 0
 Within part g = (n : ℕ) → g ≡ Bytes n → IsPrefixLen n part × (0 < n)
+
+-- What a read into a part does to the bytes that the input still has, where those are known: those that came are its
+-- first ones, at the end there are none, and where it fails all are still there.
+abbrev pub Reads : Option (List ℕ) → Option (List ℕ) → List ℕ → Got → Type 0
+Reads old new part (Bytes n) = Consumes old new (take n part)
+Reads old new part End = Keeps old new × (0 < length part → IsAtEnd new)
+Reads old new part Failed = Keeps old new

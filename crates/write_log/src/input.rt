@@ -7,7 +7,7 @@ ghost use Rattle.write_log.specs.Within.{Within};
 
 use gate::wide;
 use layout::{MAX_LOG, byte_at};
-use libc::STDIN_FILENO;
+use std::io::Read;
 use streams::{Whole, read_whole};
 use text::LF;
 
@@ -31,10 +31,10 @@ pub enum Asked {
 }
 
 // Standard input, to its end or as far as the array goes.
-pub fn read_input(input: &mut [u8; INPUT]) -> Whole
+pub fn read_input<R: Read>(stdin: &mut R, input: &mut [u8; INPUT]) -> Whole
     ensures { Holds input.new result × (length input.new ≡ input_bytes) }
 {
-    read_whole(STDIN_FILENO, input)
+    read_whole(stdin, input)
 }
 
 // What an input asks for.

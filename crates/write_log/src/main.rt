@@ -1,5 +1,7 @@
 // Tries the writer of logs. Standard input gives a room in bytes and a log. The writer is handed a buffer of that room,
 // the log's version, its setup and each of its records; what it answers, and the whole buffer, go to standard output.
+#![tactic(auto)]
+
 mod input;
 mod lines;
 
@@ -12,6 +14,7 @@ use input::{Asked, INPUT, MAX_ROOM, read_input, room_in};
 use layout::record_size;
 use lines::{TEXT, put_buffer, put_entry, put_named, put_refusal};
 use logs::{Next, Opening, Refusal, record_at};
+use std::io::Write;
 use streams::Whole;
 use text::wide_size;
 
@@ -28,35 +31,41 @@ struct Standing {
     end: usize,
 }
 
-fn main() {
+fn main(rt: HostRuntime) {
+    let mut stdin = rt.stdin();
+    let mut stdout = rt.stdout();
+    let mut stderr = rt.stderr();
     let mut input = [0u8; INPUT];
-    let whole = read_input(&mut input);
+    let whole = read_input(&mut stdin, &mut input);
     let Whole::Bytes(n) = whole else {
-        streams::tell_unread();
+        streams::tell_unread(&mut stderr);
         return;
     };
-    try_input(&input[..n]);
+    try_input(&input[..n], &mut stdout, &mut stderr);
 }
 
 // Tries the writer on an input.
-fn try_input(input: &[u8])
+fn try_input<W: Write, E: Write>(input: &[u8], stdout: &mut W, stderr: &mut E)
     requires { length input.now ≤ input_bytes }
 {
     let asked = room_in(input);
     let Asked::Room(room, start) = asked else {
-        streams::tell(b"the input does not begin with a room from 0 to 65535 and a line feed\n");
+        streams::tell(
+            stderr,
+            b"the input does not begin with a room from 0 to 65535 and a line feed\n",
+        );
         return;
     };
-    print_tried(&input[start..], room);
+    print_tried(&input[start..], room, stdout, stderr);
 }
 
 // Tries it on a log in a room, and prints what comes of that.
-fn print_tried(log: &[u8], room: usize)
+fn print_tried<W: Write, E: Write>(log: &[u8], room: usize, stdout: &mut W, stderr: &mut E)
     requires { (length log.now ≤ input_bytes) × (room ≤ max_room) }
 {
     let mut out = [0u8; TEXT];
     let end = put_tried(log, room, &mut out);
-    streams::write_out(&out[..end]);
+    streams::write_out(stdout, stderr, &out[..end]);
 }
 
 // The text of that, and where it ends.
