@@ -42,7 +42,8 @@ room-on room n held (b ∷ s) t e h =
 
 module _ {s t room room' room'' out out' out'' : List ℕ} {n at : ℕ} {r r' : Standing} where
   pub answered-on : Answered s room n room' out at out' r → Answered t room' r.n room'' out' r.used out'' r'
-      → length room ≡ room_bytes → n ≤ room_bytes → r.used ≤ length out → Answered (s ++ t) room n room'' out at out'' r'
+      → length room ≡ room_bytes → n ≤ room_bytes → r.used ≤ length out
+      → Answered (s ++ t) room n room'' out at out'' r'
   answered-on first next all few fits =
       let h = take n room in
       let then = held_then h s t in

@@ -1,4 +1,6 @@
 // Orders out of an input that comes in parts, and their answers as lines of text.
+#![tactic(auto)]
+
 mod line;
 
 ghost use Rattle.std.specs.Prelude.{◌≡◌, ◌∷◌, [], ◌+◌, ◌*◌, ◌≤◌, min, length, take, set};

@@ -1,4 +1,4 @@
--- Lines, fields and widths, computed. A line or a field is written as its bytes, under its text; where nothing
+-- Lines, fields, widths and inputs, computed. A line or a field is written as its bytes, under its text; where nothing
 -- else is said, the letter is E (69) and the separator a space (32).
 -- Assumes nothing.
 use Prim.Native.Nat.{ℕ}
@@ -9,6 +9,7 @@ use lib.ListN.{length, replicate}
 use Rattle.numerals.specs.Plain.{no_plain, plain_of}
 use Rattle.text.specs.Text.{bits8, bits16, bits32}
 use Rattle.lines.specs.Lines.{dash, value_of, values_of, fit_in, all_fit}
+use Rattle.lines.specs.Input.{held_to, read_from}
 
 -- FIELDS
 
@@ -176,7 +177,7 @@ fitting = (refl, refl, refl, refl, refl)
 -- one past each width
 -- in the place of another
 -- a `-`, and a field that is no number
-pub too_large :
+pub too-large :
     (fit_in (bits8 ∷ []) (256 ∷ []) ≡ false)
     × (fit_in (bits16 ∷ []) (65536 ∷ []) ≡ false)
     × (fit_in (bits32 ∷ []) (4294967296 ∷ []) ≡ false)
@@ -185,7 +186,7 @@ pub too_large :
     × (fit_in (bits32 ∷ []) (dash ∷ []) ≡ false)
     × (fit_in (bits32 ∷ []) (no_plain ∷ []) ≡ false)
 unfolding fit_in
-too_large = (refl, refl, refl, refl, refl, refl, refl)
+too-large = (refl, refl, refl, refl, refl, refl, refl)
 
 -- too few numbers, and too many
 pub other-counts :
@@ -220,3 +221,27 @@ pub all-fitting :
     × (all_fit bits32 (dash ∷ []) ≡ false)
 unfolding all_fit
 all-fitting = (refl, refl, refl, refl, refl, refl, refl)
+
+-- INPUTS, whatever a line makes of what was read before it
+
+module _ {S : Type 0} (taken : S → List ℕ → S) (t : S) where
+  abbrev ReadAs : List ℕ → List ℕ → S → List ℕ → Type 0
+  ReadAs begun s after rest = read_from taken t begun s ≡ record { state = after; rest = rest }
+
+  -- nothing
+  -- a, and then b
+  -- a, and then b LF
+  -- LF LF c: two blank lines
+  -- a CR LF: the CR is a byte of the line
+  pub inputs :
+      ReadAs [] [] t []
+      × ReadAs (97 ∷ []) (98 ∷ []) t (97 ∷ 98 ∷ [])
+      × ReadAs (97 ∷ []) (98 ∷ 10 ∷ []) (taken t (97 ∷ 98 ∷ [])) []
+      × ReadAs [] (10 ∷ 10 ∷ 99 ∷ []) (taken (taken t []) []) (99 ∷ [])
+      × ReadAs [] (97 ∷ 13 ∷ 10 ∷ []) (taken t (97 ∷ 13 ∷ [])) []
+  inputs = (refl, refl, refl, refl, refl)
+
+  -- a LF b c d, of which two bytes have room
+  pub held-inputs : held_to 2 (read_from taken t [] (97 ∷ 10 ∷ 98 ∷ 99 ∷ 100 ∷ []))
+      ≡ record { state = taken t (97 ∷ []); rest = 98 ∷ 99 ∷ [] }
+  held-inputs = refl

@@ -1,6 +1,7 @@
 -- A line of text: a letter, and numbers behind it with exactly one separator before each.
 -- Assumes nothing.
-use Rattle.std.specs.Prelude.{ℕ, ◌+◌, Bool, true, false, ◌&&◌, ◌||◌, cond, List, [], ◌∷◌, map, eqb, leb, length, get_or, drop}
+use Rattle.std.specs.Prelude.{ℕ, ◌+◌, Bool, true, false, ◌&&◌, ◌||◌, cond, List, [], ◌∷◌, map}
+use Rattle.std.specs.Prelude.{eqb, leb, length, get_or, drop}
 use Rattle.fields.specs.Fields.{fields}
 use Rattle.numerals.specs.Plain.{no_plain, plain_of}
 

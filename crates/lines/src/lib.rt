@@ -1,4 +1,5 @@
 // A line of text: the numbers behind its letter, and whether they fit their widths.
+#![tactic(auto)]
 
 ghost use Rattle.std.specs.Prelude.{◌≡◌, true, map, ◌≤◌, length, take, set};
 ghost use Rattle.fields.specs.Fields.{fields, Placed};

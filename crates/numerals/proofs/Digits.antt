@@ -1,4 +1,4 @@
--- Digits read one by one, and the number of a field from its digits.
+-- Digits read one by one, and the number of a field from its size.
 -- Assumes nothing.
 use Prim.Native.Nat.{ℕ, zero, suc, ◌+◌, ◌-◌, ◌*◌, ◌^◌, ◌≤◌, ◌<◌}
 use native.Mathlib.Numerals.{add-one}
@@ -12,10 +12,9 @@ use lib.IntN.{pos, negsuc, ◌-ℤ◌}
 use lib.ListN.{length, get_or, drop, drop_of_length-le}
 use lib.Seq.{drop-cons}
 use borrow.Author.Tests.{le-ltb, le-leb, lt-leb, leb-false, eq-eqb, ne_eqb}
-use Rattle.rules.proofs.Tests.{by-test}
-use Rattle.text.specs.Text.{max_count}
 use Rattle.numerals.specs.Numbers.{minus, is_digit, spelt, digits, signed, negated, out_of_range, fitting, field_of}
-use Rattle.numerals.specs.Plain.{up_to}
+use Rattle.numerals.specs.Steps.{too_large, sized, positive, negative}
+use Rattle.rules.proofs.Tests.{by-test}
 
 -- A DIGIT
 
@@ -38,14 +37,13 @@ pub some-digits : (f : List ℕ) → 0 < length f → digits f ≡ spelt 0 f
 some-digits [] h = absurd (omega arith)
 some-digits (b ∷ f) h = refl
 
--- a number that is too large stays so
-stays : (t : Bool) (n : ℕ) (s : List ℕ)
-    → up_to max_count (spelt n s) ≡ none → up_to max_count (cond t (spelt n s) none) ≡ none
+-- a size that is too large stays so
+stays : (t : Bool) (n : ℕ) (s : List ℕ) → sized (spelt n s) ≡ too_large → sized (cond t (spelt n s) none) ≡ too_large
 stays true n s e = e
 stays false n s e = refl
 
-spelt-large : (n : ℕ) (s : List ℕ) → max_count < n → up_to max_count (spelt n s) ≡ none
-spelt-large n [] h = rw (lt-leb n max_count h)
+spelt-large : (n : ℕ) (s : List ℕ) → 2 ^ 63 < n → sized (spelt n s) ≡ too_large
+spelt-large n [] h = rw (lt-leb n (2 ^ 63) h)
 spelt-large n (b ∷ s) h = stays (is_digit b) (n * 10 + (b - 48)) s (spelt-large (n * 10 + (b - 48)) s (omega arith))
 
 module _ (f : List ℕ) (n i : ℕ) (there : i < length f) where
@@ -55,36 +53,35 @@ module _ (f : List ℕ) (n i : ℕ) (there : i < length f) where
   spelt-at : spelt n (drop i f) ≡ cond (is_digit (get_or f i 0)) (spelt next (drop (i + 1) f)) none
   spelt-at = rw (add-one, drop-cons f i 0)
 
-  pub stops : is_digit (get_or f i 0) ≡ false → up_to max_count (spelt n (drop i f)) ≡ none
+  pub stops : is_digit (get_or f i 0) ≡ false → sized (spelt n (drop i f)) ≡ too_large
   stops e = rw (spelt-at, e)
 
   pub goes_on : is_digit (get_or f i 0) ≡ true → spelt n (drop i f) ≡ spelt next (drop (i + 1) f)
   goes_on e = rw (spelt-at, e)
 
-  pub overflows : is_digit (get_or f i 0) ≡ true → max_count < next → up_to max_count (spelt n (drop i f)) ≡ none
-  overflows e h = rw (goes_on e) (spelt-large next (drop (i + 1) f) h)
+  pub overflows : is_digit (get_or f i 0) ≡ true → 922337203685477580 < n → sized (spelt n (drop i f)) ≡ too_large
+  overflows e h = rw (goes_on e) (spelt-large next (drop (i + 1) f) (omega arith))
 
 pub all_read : (f : List ℕ) (n i : ℕ) → length f ≤ i → spelt n (drop i f) ≡ some n
 all_read f n i h = rw (drop_of_length-le f h)
 
-pub within : (n : ℕ) → n ≤ max_count → up_to max_count (some n) ≡ some n
-within n h = rw (le-leb n max_count h)
+pub sized-some : (n : ℕ) → n ≤ too_large → n ≡ sized (some n)
+sized-some n h = by-test (leb n (2 ^ 63)) (λ e. rw e) (λ e. rw e (omega (arith, leb-false n (2 ^ 63) e)))
 
 -- A FIELD
 
--- a number that does not fit 64 bits does not fit them with a sign either, without a minus sign and with one
-pub plain-field : (o : Option ℕ) → fitting (signed pos (up_to max_count o)) ≡ fitting (signed pos o)
+-- the number of a field from the size of its digits, without a sign and with one
+pub plain-field : (o : Option ℕ) → positive (sized o) ≡ fitting (signed pos o)
 plain-field none = refl
 plain-field (some n) =
-    by-test (leb n max_count) (λ e. rw e)
-    (λ e. let h : 2 ^ 63 ≤ n = omega (arith, leb-false n max_count e) in rw (e, le-ltb n (2 ^ 63) h))
+    by-test (leb n (2 ^ 63)) (λ e. rw e)
+    (λ e. let h : 2 ^ 63 ≤ n = omega (arith, leb-false n (2 ^ 63) e) in rw (e, le-ltb n (2 ^ 63) h))
 
-pub minus-field : (o : Option ℕ) → fitting (signed negated (up_to max_count o)) ≡ fitting (signed negated o)
+pub minus-field : (o : Option ℕ) → negative (sized o) ≡ fitting (signed negated o)
 minus-field none = refl
 minus-field (some zero) = refl
 minus-field (some (suc k)) =
-    by-test (leb (suc k) max_count) (λ e. rw e)
-    (λ e. let h : 2 ^ 63 ≤ k = omega (arith, leb-false (suc k) max_count e) in rw (e, le-ltb k (2 ^ 63) h))
+    by-test (leb (suc k) (2 ^ 63)) (λ e. rw e (rw e)) (λ e. rw e)
 
 -- which of the two it is
 pub empty-field : (f : List ℕ) → length f ≡ 0 → field_of f ≡ out_of_range
@@ -98,7 +95,8 @@ unfolding field_of
 field-minus [] h e = absurd (omega arith)
 field-minus (b ∷ f) h e = rw (eq-eqb b minus e)
 
-pub field_plain : (f : List ℕ) → 0 < length f → (get_or f 0 0 ≡ minus → ⊥) → field_of f ≡ fitting (signed pos (digits f))
+pub field_plain : (f : List ℕ) → 0 < length f → (get_or f 0 0 ≡ minus → ⊥)
+    → field_of f ≡ fitting (signed pos (digits f))
 unfolding field_of
 field_plain [] h e = absurd (omega arith)
 field_plain (b ∷ f) h e = rw (ne_eqb b minus e)

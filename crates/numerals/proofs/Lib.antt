@@ -1,5 +1,6 @@
 -- Digits read one by one, plain numbers, and numbers that compute.
 pub mod Digits
+pub mod LongDigits
 pub mod Plain
 pub mod Again
 pub mod Cases

@@ -1,6 +1,6 @@
--- Plain numbers: from the digits of a field, and from what is written.
+-- Plain numbers: from the size of a field's digits, and from what is written.
 -- Assumes nothing.
-use Prim.Native.Nat.{ℕ, zero, suc, ◌+◌, ◌-◌, ◌*◌, ◌/◌, ◌%◌, ◌^◌, ◌≤◌, ◌<◌}
+use Prim.Native.Nat.{ℕ, zero, suc, ◌+◌, ◌-◌, ◌*◌, ◌/◌, ◌%◌, ◌^◌, ◌≤◌, ◌<◌, min}
 use native.Mathlib.Omega.{arith}
 use mathlib.Core.Path.{◌≡◌, refl, sym, ap, ◌∙◌}
 use mathlib.Core.Bool.{false}
@@ -10,10 +10,11 @@ use lib.Dec.{eqb, ltb, leb}
 use lib.ListN.{length, get_or, get_or-append}
 use borrow.Author.Tests.{leb-false, ltb-true, ltb-false, ne_eqb}
 use Rattle.rules.proofs.Tests.{by-test}
-use Rattle.text.specs.Text.{first_digit, decimal, max_count}
+use Rattle.text.specs.Text.{first_digit, decimal}
 use Rattle.text.proofs.Decimal.{decimal_digit, decimal-more, length-digit, length_more}
 use Rattle.numerals.specs.Numbers.{is_digit, spelt}
-use Rattle.numerals.specs.Plain.{zero_first, narrowed, plain_of, up_to}
+use Rattle.numerals.specs.Plain.{zero_first, no_plain, narrowed, plain_of}
+use Rattle.numerals.specs.Steps.{sized}
 use Rattle.numerals.proofs.Digits.{a-digit, some-digits}
 
 -- A FIELD
@@ -29,11 +30,11 @@ long-field (b ∷ []) h = absurd (omega arith)
 long-field (b ∷ c ∷ f) h = refl
 
 -- a number that does not fit 64 bits does not fit 32 either
-pub narrow-long : (o : Option ℕ) → narrowed (up_to max_count o) ≡ narrowed o
-narrow-long none = refl
-narrow-long (some n) =
-    by-test (leb n max_count) (λ e. rw e)
-    (λ e. let h : max_count < n = omega (arith, leb-false n max_count e) in rw e (omega arith))
+pub narrow_size : (o : Option ℕ) → min (sized o) no_plain ≡ narrowed o
+narrow_size none = refl
+narrow_size (some n) =
+    by-test (leb n (2 ^ 63)) (λ e. rw e)
+    (λ e. let h : 2 ^ 63 < n = omega (arith, leb-false n (2 ^ 63) e) in rw e (omega arith))
 
 -- READING UNDOES WRITING
 

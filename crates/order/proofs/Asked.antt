@@ -37,7 +37,8 @@ module _ (s : List ℕ) where
 
 -- the fields and the columns that were read are those of the order
 pub same-order : (vs : List ℤ) {e p m K : ℤ} {calls caps tidies : List ℤ}
-    → e ≡ get_or vs 0 out_of_range → p ≡ get_or vs 1 out_of_range → m ≡ get_or vs 2 out_of_range → K ≡ get_or vs 3 out_of_range
+    → e ≡ get_or vs 0 out_of_range → p ≡ get_or vs 1 out_of_range
+    → m ≡ get_or vs 2 out_of_range → K ≡ get_or vs 3 out_of_range
     → calls ≡ every_third (drop 4 vs) → caps ≡ every_third (drop 5 vs) → tidies ≡ every_third (drop 6 vs)
     → quote (order_of e p m K calls caps tidies) ≡ quote (order_from vs)
 same-order vs e p m K calls caps tidies = rw (e, p, m, K, calls, caps, tidies)

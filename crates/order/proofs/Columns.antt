@@ -10,7 +10,7 @@ use lib.ListN.{length, get_or, take, drop, set, length-drop}
 use lib.Seq.{ext_get_or, get_or-take, get_or-drop, get_or-set_same, get_or-set_other, length-take-le}
 use borrow.Author.Tests.{eqb-true, eqb-false}
 use Rattle.rules.proofs.Tests.{by-test}
-use Rattle.rules.proofs.Lists.{get_d_any}
+use Rattle.fields.proofs.Placed.{get_d_any}
 use Rattle.numerals.specs.Numbers.{out_of_range}
 use Rattle.order.specs.Orders.{every_third}
 use Rattle.order.specs.Steps.{in_column}

@@ -1,4 +1,5 @@
 // An order as a line of text: its fields read, and the quote that it asks for.
+#![tactic(auto)]
 
 ghost use Rattle.std.specs.Prelude.{◌≡◌, ◌≤◌, pos, length, set};
 ghost use Rattle.rules.specs.Limits.{max_lines};

@@ -1,4 +1,5 @@
 // Whether a gate is sound, in every clause of the definition. A gate of any contents has an answer.
+#![tactic(auto)]
 
 ghost use Rattle.std.specs.Prelude.{◌<◌, ◌≡◌, length};
 ghost use Rattle.rules.specs.Limits.{max_clients};

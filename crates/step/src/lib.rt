@@ -1,5 +1,6 @@
 // The public door of the gate: one event or one raw record on any gate whatever, with the check of soundness. Beside it
 // the inner door for callers that hold the parts of a sound gate: the same without the check, and it keeps soundness.
+#![tactic(auto)]
 
 ghost use Rattle.std.specs.Prelude.{◌≡◌, true};
 ghost use Rattle.rules.specs.Records.{newest, known, heard_of};

@@ -8,7 +8,8 @@ use Rattle.fields.proofs.end.Given as goal
 
 abbrev pub invariant-loop-i : goal.invariant-loop-i
 invariant-loop-i l =
-    (l.a ≤ l.i) × (l.i ≤ length l.s) × (l.i + field_length l.separator (drop l.i l.s) ≡ l.a + field_length l.separator (drop l.a l.s))
+    (l.a ≤ l.i) × (l.i ≤ length l.s)
+    × (l.i + field_length l.separator (drop l.i l.s) ≡ l.a + field_length l.separator (drop l.a l.s))
 
 abbrev pub decreases-loop-i : goal.decreases-loop-i
 decreases-loop-i l = length l.s - l.i

@@ -7,7 +7,10 @@ use Rattle.text.specs.Text.{written}
 use Rattle.text.proofs.put_bytes.Given as goal
 
 abbrev pub invariant-loop-i : goal.invariant-loop-i
-invariant-loop-i l = (l.i ≤ length l.s) × (length l.out ≡ length l.initial.out) × (l.out ≡ written l.initial.out l.at (take l.i l.s))
+invariant-loop-i l =
+    (l.i ≤ length l.s)
+    × (length l.out ≡ length l.initial.out)
+    × (l.out ≡ written l.initial.out l.at (take l.i l.s))
 
 abbrev pub decreases-loop-i : goal.decreases-loop-i
 decreases-loop-i l = length l.s - l.i
