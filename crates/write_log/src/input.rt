@@ -1,7 +1,7 @@
 // An input: the room that it asks for, a decimal number from 0 to 65,535 that an LF ends, and a log behind that.
 
 ghost use Rattle.std.specs.Prelude.{◌≡◌, ◌≤◌, length};
-ghost use Rattle.streams.specs.Whole.{Holds};
+ghost use Rattle.streams.specs.Whole.{Holds, ReadsWhole};
 ghost use Rattle.write_log.specs.Sizes.{room_digits, input_bytes};
 ghost use Rattle.write_log.specs.Within.{Within};
 
@@ -32,7 +32,8 @@ pub enum Asked {
 
 // Standard input, to its end or as far as the array goes.
 pub fn read_input<R: Read>(stdin: &mut R, input: &mut [u8; INPUT]) -> Whole
-    ensures { Holds input.new result × (length input.new ≡ input_bytes) }
+    ensures holds { Holds input.new result × (length input.new ≡ input_bytes) }
+    ensures bytes { ReadsWhole (R.remaining stdin.old) (R.remaining stdin.new) input.new result }
 {
     read_whole(stdin, input)
 }

@@ -2,4 +2,4 @@
 use Rattle.rewrite.proofs.rewrite.Goals as goal
 
 pub slice_bounds-log-end : goal.slice_bounds-log-end
-slice_bounds-log-end g c = (c.read_log-whole.ensures.0 _ c.in-Bytes.is).0
+slice_bounds-log-end g c = (c.read_log-whole.ensures.holds.0 _ c.in-Bytes.is).0
