@@ -1,4 +1,5 @@
 // A checker of a kernel's trace, entry by entry: the gate that the rules give so far, and the verdict so far.
+#![tactic(auto)]
 
 ghost use Rattle.std.specs.Prelude.{◌≡◌};
 ghost use Rattle.rules.specs.Replay.{in_service};
