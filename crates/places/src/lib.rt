@@ -1,5 +1,6 @@
 // Queues in fixed places, first come, first served: used places come first, and unused places hold 255.
 // A slice of any length serves, and any contents: what each function answers is said of the places as they stand.
+#![tactic(auto)]
 
 ghost use Rattle.std.specs.Prelude.{◌≡◌, drop};
 ghost use Rattle.rules.specs.Lists.{has};

@@ -13,7 +13,6 @@ use Rattle.rules.specs.Sound.{Full}
 use Rattle.rules.specs.Queues.{waits, start, pick, pick_idle}
 use Rattle.rules.specs.Events.{behind}
 use Rattle.rules.proofs.Tests.{clash}
-use Rattle.rules.proofs.Images.{at}
 use Rattle.rules.proofs.InOrder.{Valid, all_clusters, Lined, Ordered, InOrder, busy}
 use Rattle.rules.proofs.Ahead.{ahead, extra}
 use Rattle.rules.proofs.Passes.{NoLater, keeps, Passes}

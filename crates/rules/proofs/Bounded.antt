@@ -1,6 +1,5 @@
 -- Demand 3 from any ranking: what the invariant of every client means for its charge.
 -- Assumes nothing.
-use mathlib.Core.Path.{◌≡◌}
 use Rattle.rules.specs.Setup.{Setup, Accepted}
 use Rattle.rules.specs.Step.{Ranks}
 use Rattle.rules.specs.History.{after_by, struck_in_room_by}

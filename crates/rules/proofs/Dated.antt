@@ -1,13 +1,13 @@
 -- Deadlines: an event gives one where a wait begins and takes it where a wait ends, so each is fixed for its wait, and
 -- they stay as sound states have them. All else holds whatever the deadlines are.
 -- Assumes nothing.
-use Prim.Native.Nat.{ℕ, ◌≤◌, ◌<◌}
+use Prim.Native.Nat.{ℕ, ◌≤◌}
 use mathlib.Core.Path.{◌≡◌, refl, sym, ◌∙◌}
-use mathlib.Core.Bool.{Bool, true, false, not, ◌&&◌, cond}
+use mathlib.Core.Bool.{Bool, true, false, cond}
 use mathlib.Core.Option.{Option, some, none}
 use native.Mathlib.Omega.{arith}
 use lib.Dec.{eqb, leb}
-use borrow.Author.Tests.{eqb-true, eqb-false, eq-eqb, leb-true}
+use borrow.Author.Tests.{eqb-true, eqb-false, leb-true}
 use Rattle.rules.specs.Limits.{max_deadline}
 use Rattle.rules.specs.Refusals.{accepted}
 use Rattle.rules.specs.Lists.{upd, has}

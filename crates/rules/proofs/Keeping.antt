@@ -2,12 +2,11 @@
 -- Assumes nothing.
 use Prim.Native.Nat.{ℕ}
 use mathlib.Core.Path.{◌≡◌, refl, sym, ap₂, ◌∙◌, subst}
-use mathlib.Core.Bool.{Bool, true, false}
+use mathlib.Core.Bool.{true, false}
 use mathlib.Core.List.{List, [], ◌∷◌}
 use lib.Dec.{eqb}
 use borrow.Author.Tests.{eqb-true}
 use Rattle.rules.specs.Refusals.{accepted}
-use Rattle.rules.specs.Lists.{has}
 use Rattle.rules.specs.Setup.{Setup, Accepted, real_time}
 use Rattle.rules.specs.State.{State, fresh}
 use Rattle.rules.specs.Rank.{Rank}

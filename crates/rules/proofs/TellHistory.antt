@@ -9,7 +9,7 @@ use Rattle.rules.specs.Setup.{Setup}
 use Rattle.rules.specs.Rank.{outranks}
 use Rattle.rules.specs.Queues.{refill, queue, pick}
 use Rattle.rules.specs.Events.{invoked, ran, replied, aborted, readied}
-use Rattle.rules.specs.Step.{answer_by, moved_by, next_by, step_by, next}
+use Rattle.rules.specs.Step.{answer_by, moved_by, next_by, step_by}
 use Rattle.rules.specs.Records.{Record, event_of}
 use Rattle.rules.specs.History.{waiting, struck, struck_in_room, calls, owed, owed_in_all}
 use Rattle.rules.proofs.Table.{rt, be, given, invokes, runs, replies, aborts, past}

@@ -9,7 +9,7 @@ use Rattle.rules.specs.Setup.{Setup, setup_answer}
 use Rattle.rules.specs.Rank.{outranks}
 use Rattle.rules.specs.Queues.{refill, queue, pick}
 use Rattle.rules.specs.Events.{invoke, run, reply, ready, invoked, ran, replied, aborted, readied}
-use Rattle.rules.specs.Step.{answer_by, moved_by, next_by, step_by, answer, next}
+use Rattle.rules.specs.Step.{answer_by, moved_by, next_by, step_by}
 use Rattle.rules.specs.Records.{Record, event_of}
 use Rattle.rules.specs.Traces.{Traced, seen_from, the_answer, the_served, the_charges, Verdict, refused, agrees}
 use Rattle.rules.specs.Traces.{differs, compared, trace_verdict, traced}

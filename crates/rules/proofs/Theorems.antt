@@ -11,7 +11,7 @@ use lib.ListN.{get_or}
 use Rattle.rules.specs.Limits.{max_charge}
 use Rattle.rules.specs.Refusals.{accepted, unknown_record, unsound}
 use Rattle.rules.specs.Setup.{Setup, Accepted, real_time, trimmed}
-use Rattle.rules.specs.State.{State, fresh}
+use Rattle.rules.specs.State.{State}
 use Rattle.rules.specs.Sound.{Sound}
 use Rattle.rules.specs.Rank.{outranks}
 use Rattle.rules.specs.Queues.{waits, pick}

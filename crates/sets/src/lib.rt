@@ -1,5 +1,6 @@
 // Sets of clients as words: bit c of a u64 says whether client c is in the set.
 // A number of 64 or more is no client's: it is in no set, and joins and leaves none.
+#![tactic(auto)]
 
 ghost use Rattle.std.specs.Prelude.{true, ◌≡◌, ◌<◌};
 ghost use Rattle.rules.specs.Limits.{max_clients};

@@ -1,6 +1,6 @@
 -- `close_up` closes the places up. The loop's invariant: to close up the places as they are, at the loop's place,
 -- gives what closing up those that came gives, at the given place. Assumes nothing.
-use Prim.Native.Nat.{◌+◌, ◌-◌, ◌<◌}
+use Prim.Native.Nat.{◌+◌, ◌<◌}
 use mathlib.Core.Path.{refl, sym, ◌∙◌}
 use native.Mathlib.Omega.{arith}
 use lib.ListN.{length, length-set}

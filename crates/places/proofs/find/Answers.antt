@@ -1,6 +1,5 @@
 -- `find` answers the first place that holds x. The loop's invariant: what is passed, and what a search of the rest
 -- answers, make the answer. Assumes nothing.
-use Prim.Native.Nat.{◌-◌}
 use mathlib.Core.Path.{sym, ◌∙◌}
 use native.Mathlib.Nat.{zero-add}
 use native.Mathlib.Omega.{arith}

@@ -1,6 +1,5 @@
 -- `places::holds_only_from` meets its contract: what is left to look at passes the test if the whole does.
 -- Assumes nothing.
-use Prim.Native.Nat.{◌-◌}
 use mathlib.Core.Path.{refl, sym, ◌∙◌}
 use native.Mathlib.Omega.{arith}
 use Rattle.places.proofs.Turns.{same_turn, same_stop, same_end}
