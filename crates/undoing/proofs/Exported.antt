@@ -22,7 +22,8 @@ use Rattle.logs.specs.declared.Opening.TheVariants.{Records}
 use Rattle.logs.specs.Reading.{whole, whole_end, whole_of}
 use Rattle.logs.proofs.Openings.{Opens, opens}
 use Rattle.logs.proofs.Wholes.{whole_is}
-use Rattle.items.specs.Items.{head_form, sizes_form, row_form, record_form, head_fits, item_size, item_bytes, numbers_at}
+use Rattle.items.specs.Items.{head_form, sizes_form, row_form, record_form, head_fits, item_size, item_bytes}
+use Rattle.items.specs.Items.{numbers_at}
 use Rattle.items.specs.Lines.{head_letter, sizes_letter, row_letter, record_letter, line, lines_at}
 use Rattle.items.specs.Lines.{sizes_line, row_lines, record_lines, lines_of}
 use Rattle.items.specs.Room.{most_numbers}
@@ -99,7 +100,8 @@ module _ (l : List ℕ) (small : (i : ℕ) → byte_at l i < 256) (short : lengt
   -- LINES
 
   rows_on : (j n v k r at : ℕ) (rest : List ℕ) → at + row_size * j ≤ length l
-      → read_from taken (import (sheet Items n v k (r + j)) (take at l)) [] (lines_at row_letter row_form l at j ++ rest)
+      → read_from taken (import (sheet Items n v k (r + j)) (take at l)) []
+      (lines_at row_letter row_form l at j ++ rest)
       ≡ read_from taken (import (sheet Items (counts j n) v k r) (take (at + row_size * j) l)) [] rest
   rows_on zero n v k r at rest h =
       let none : r + 0 ≡ r = omega arith in
@@ -195,7 +197,8 @@ module _ (l : List ℕ) (small : (i : ℕ) → byte_at l i < 256) (short : lengt
         rw (
           item-numbers sizes_letter (sizes_form k) (tables_at v) (sizes-widths k) few,
           numbers_fit l small (sizes_form k) (tables_at v) (sizes-widths k),
-        ) (ap (import (sheet Items (next_count n) v k r)) (item_on (sizes_form k) (tables_at v) (size_at v k) size fits))
+        ) (ap (import (sheet Items (next_count n) v k r))
+        (item_on (sizes_form k) (tables_at v) (size_at v k) size fits))
 
     -- THE WHOLE LOG
 
@@ -210,7 +213,8 @@ module _ (l : List ℕ) (small : (i : ℕ) → byte_at l i < 256) (short : lengt
         let none : n ≡ 0 + n = omega arith in
         let sized = import (sheet Sizes (next_count 0) v k n) (take (tables_at v) l) in
         let last = import (sheet Items (counts (whole l start) (counts n c)) v k 0) (take (whole_end l start) l) in
-        ap said (line_on none_read head_letter (head_form v) version_at (sizes_line l ++ rows) (omega arith) (head-widths v)
+        ap said (line_on none_read head_letter (head_form v) version_at (sizes_line l ++ rows) (omega arith)
+        (head-widths v)
         ∙ ap (λ (t : Import). read_from taken t [] (sizes_line l ++ rows)) head-taken
         ∙ line_on sized sizes_letter (sizes_form k) (tables_at v) rows (omega arith) (sizes-widths k)
         ∙ ap (λ (t : Import). read_from taken t [] rows) (sizes-taken (next_count 0) n)

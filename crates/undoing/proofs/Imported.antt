@@ -37,7 +37,8 @@ shorter l more h = omega (arith, length-append l more)
 -- the header's: nothing but the mark was there
 head-grown : (ns : List ℕ) → head_fits ns ≡ true → (n : ℕ) (s l text : List ℕ) → numbers_of head_letter s ≡ ns
     → l ≡ mark → text ≡ []
-    → ShowsHead (sheet Sizes n (get_or ns 0 0) (get_or ns 1 0) (get_or ns 2 0)) (l ++ item_bytes (head_form (get_or ns 0 0)) ns)
+    → ShowsHead (sheet Sizes n (get_or ns 0 0) (get_or ns 1 0) (get_or ns 2 0))
+    (l ++ item_bytes (head_form (get_or ns 0 0)) ns)
     (text ++ (s ++ (lf ∷ [])))
 head-grown ns y n s l text e is none = rw (is, none) (head-shown ns y n s e)
 

@@ -16,7 +16,8 @@ use Rattle.lines.specs.Lines.{fit_in}
 use Rattle.lines.specs.Input.{read_from}
 use Rattle.layout.specs.Bytes.{byte_at}
 use Rattle.layout.specs.Layout.{mark}
-use Rattle.items.specs.Items.{head_form, sizes_form, row_form, record_form, head_fits, by_width, number_bytes, item_bytes}
+use Rattle.items.specs.Items.{head_form, sizes_form, row_form, record_form, head_fits, by_width, number_bytes}
+use Rattle.items.specs.Items.{item_bytes}
 use Rattle.items.proofs.Numbers.{of_width}
 use Rattle.items.proofs.Fits.{Widths, head-widths, sizes-widths, row-widths, record-widths, fit-both}
 use Rattle.importing.specs.declared.Stage.{Stage}
@@ -97,7 +98,8 @@ small-items false v next l ns h = small-as (fit_in row_form ns) row_form ns next
 small-in : (st : Stage) (s : Sheet) (l ns : List ℕ) → Small l → Small (taken_in st s l ns).bytes
 small-in Head s l ns h =
     small-as (head_fits ns) (head_form (get_or ns 0 0)) ns
-    (sheet Sizes s.lines (get_or ns 0 0) (get_or ns 1 0) (get_or ns 2 0)) l (head-widths (get_or ns 0 0)) (head-fit ns) h
+    (sheet Sizes s.lines (get_or ns 0 0) (get_or ns 1 0) (get_or ns 2 0)) l (head-widths (get_or ns 0 0))
+    (head-fit ns) h
 small-in Sizes s l ns h =
     let form = sizes_form s.clusters in
     small-as (fit_in form ns) form ns (sheet Items s.lines s.version s.clusters s.rows) l
