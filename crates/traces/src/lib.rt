@@ -1,4 +1,6 @@
 // A kernel's trace out of an input that comes in parts, and the one line that tells its judgement.
+#![tactic(auto)]
+
 mod judging;
 mod reading;
 

@@ -3,7 +3,7 @@
 -- Assumes nothing.
 use Prim.Native.Nat.{ℕ}
 use mathlib.Core.Path.{◌≡◌, refl, sym, ap, ◌∙◌}
-use mathlib.Core.Bool.{Bool, true, false, not}
+use mathlib.Core.Bool.{true, false, not}
 use mathlib.Core.List.{List, [], ◌∷◌, map}
 use Rattle.rules.proofs.Tests.{by-test}
 use Rattle.gate.specs.declared.Setup.{Setup}
@@ -15,7 +15,7 @@ use Rattle.checking.proofs.Steps.{checked-told, checked-version}
 use Rattle.lines.specs.Lines.{values_of}
 use Rattle.tracing.specs.declared.Stage.TheVariants.{Entries}
 use Rattle.tracing.specs.declared.Trace.{Trace}
-use Rattle.tracing.specs.Shapes.{entry_fits, event_in, seen_of}
+use Rattle.tracing.specs.Shapes.{entry_fits}
 use Rattle.tracing.specs.Tracing.{trace, taken, taken_all, traced_in, AllEntries}
 use Rattle.tracing.proofs.Lines.{decided-stays, taken-on}
 

@@ -1,4 +1,6 @@
 // A trace as lines of text, one by one: the setup that the first ones say, then the entries, each checked as it comes.
+#![tactic(auto)]
+
 mod shapes;
 mod stages;
 
