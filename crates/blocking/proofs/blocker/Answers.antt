@@ -1,8 +1,6 @@
 -- `blocking::blocker` meets its contract: the loop holds the latest of those that it has passed.
 -- Assumes nothing.
-use Prim.Native.Nat.{◌-◌}
 use mathlib.Core.Path.{◌≡◌, refl, sym, ap, ◌∙◌}
-use mathlib.Core.Logic.{⊎_elim}
 use native.Mathlib.Omega.{arith}
 use borrow.Author.Rules.{rules}
 use Rattle.rules.specs.Lists.{highest}
@@ -10,6 +8,7 @@ use Rattle.group_rules.specs.Limits.{max_contexts}
 use Rattle.blocking.specs.Queue.{number_of, later_of, blocks_in, blocker_in}
 use Rattle.blocking.proofs.Numbers.{later_by, number-le, number-taken, number_passed}
 use Rattle.blocking.proofs.blocker.Goals as goal
+use Rattle.blocking.proofs.blocker.Goals.{then-blocks, else-blocks}
 
 pub loop-b-init : goal.loop-b-init
 loop-b-init c = (omega arith, refl)
@@ -35,12 +34,12 @@ loop-b-preserved c =
     let a = c.args in
     let p = blocks_in a.times.now a.sets.now a.c in (
       omega arith,
-      ⊎_elim
-          (λ w. w.2 ∙ w.1.ensures ∙ ap (λ x. later_of a.times.now x l.b) l.invariant.1
-          ∙ number-taken a.times.now p l.b (omega arith) (sym c.blocks-in-loop-b.ensures ∙ w.0.taken))
-          (λ w. w.1 ∙ l.invariant.1
-          ∙ number_passed a.times.now p l.b (omega arith) (sym c.blocks-in-loop-b.ensures ∙ w.0.left))
-          c.if-blocks.branch,
+      elim c.if-blocks.branch [
+        | then-blocks w ↦ w.found-is ∙ w.later-found.ensures ∙ ap (λ x. later_of a.times.now x l.b) l.invariant.1
+            ∙ number-taken a.times.now p l.b (omega arith) (sym c.blocks-in-loop-b.ensures ∙ w.if-blocks.true)
+        | else-blocks w ↦ w.found-is ∙ l.invariant.1
+            ∙ number_passed a.times.now p l.b (omega arith) (sym c.blocks-in-loop-b.ensures ∙ w.if-blocks.false)
+      ],
     )
 
 pub returns : goal.returns
@@ -50,7 +49,7 @@ returns c =
     let a = c.args in
     let ts = a.times.now in
     let p = blocks_in ts a.sets.now a.c in
-    let e : l.b ≡ max_contexts = omega arith in (
-      l.invariant.1 ∙ ap (λ n. number_of (highest (later_by ts) p n)) e,
-      rw l.invariant.1 (number-le (later_by ts) p l.b l.invariant.0),
-    )
+    let e : l.b ≡ max_contexts = omega arith in record {
+      value = l.invariant.1 ∙ ap (λ n. number_of (highest (later_by ts) p n)) e;
+      upper_bound = rw l.invariant.1 (number-le (later_by ts) p l.b l.invariant.0);
+    }

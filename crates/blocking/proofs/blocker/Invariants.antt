@@ -9,7 +9,7 @@ use Rattle.blocking.proofs.Numbers.{later_by}
 use Rattle.blocking.proofs.blocker.Given as goal
 
 abbrev pub invariant-loop-b : goal.invariant-loop-b
-invariant-loop-b l = 
+invariant-loop-b l =
     (l.b ≤ max_contexts) × (l.found ≡ number_of (highest (later_by l.times) (blocks_in l.times l.sets l.c) l.b))
 
 abbrev pub decreases-loop-b : goal.decreases-loop-b

@@ -9,7 +9,7 @@ use Rattle.blocking.specs.Queue.{queued_set}
 use Rattle.blocking.proofs.queued_sets.Given as goal
 
 abbrev pub invariant-loop-c : goal.invariant-loop-c
-invariant-loop-c l = 
+invariant-loop-c l =
     (l.c ≤ max_contexts) × (length l.sets ≡ max_contexts)
     × ((i : ℕ) → i < l.c
     → get_or l.sets i 0 ≡ queued_set (get_or l.tickets i no_tickets).counts (get_or l.stacks i no_calls).places)

@@ -1,6 +1,5 @@
 -- `blocking::ticket_set` meets its contract: the loop holds the servers that it has passed.
 -- Assumes nothing.
-use Prim.Native.Nat.{◌-◌}
 use mathlib.Core.Path.{◌≡◌, refl, ap, ◌∙◌}
 use native.Mathlib.Omega.{arith}
 use lib.ListN.{get_or}
