@@ -2,23 +2,15 @@
 -- Assumes nothing.
 use mathlib.Core.Path.{◌≡◌, refl}
 use mathlib.Core.Bool.{true}
-use borrow.Author.Rules.{rules}
 use Rattle.places.specs.Places.{pad, unpad, holds_only}
 use Rattle.places.specs.Tests.{every, all_below}
 use Rattle.group_rules.specs.Groups.{none_entered}
 use Rattle.group_rules.specs.Sound.{is_empty, context_sound, sound_of}
-use Rattle.group_lines.proofs.none_held.Statement.{statement}
-use Rattle.group_lines.proofs.none_held.Tie as tie
+use Rattle.group_lines.proofs.none_held.Goals as goal
 
 none-sound : sound_of none_entered ≡ true
 unfolding sound_of context_sound is_empty all_below every holds_only unpad pad
 none-sound = refl
 
-none-entered-requires : tie.Need-none-entered-requires
-none-entered-requires c κs = search rules
-
-returns : tie.Need-returns
-returns c = rw c.none-entered.ensures (refl, none-sound)
-
-pub none-held-spec : {M : Type 1} → statement M
-none-held-spec = tie.close (tie.spec none-entered-requires returns)
+pub returns : goal.returns
+returns c = rw c.none_entered-g.ensures (record { value = refl; group_value = none-sound })
