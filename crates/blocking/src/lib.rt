@@ -1,4 +1,5 @@
 // Who blocks whom in a group's queue. Tickets are counts; the servers that they are for are sets, as words.
+#![tactic(auto)]
 
 ghost use Rattle.std.specs.Prelude.{◌≡◌, ◌-◌, ◌<◌, ◌≤◌, length, get_or};
 ghost use Rattle.group_rules.specs.Limits.{max_contexts, max_depth};

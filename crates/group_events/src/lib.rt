@@ -1,4 +1,6 @@
 // What an event answers, and what it returns; and entry, call and reply, each with its answer.
+#![tactic(auto)]
+
 mod calls;
 mod entries;
 mod replies;

@@ -1,4 +1,6 @@
 // Events of a group as lines of text, out of an input that comes in parts; and the lines that tell what each did.
+#![tactic(auto)]
+
 mod reading;
 
 ghost use Rattle.std.specs.Prelude.{◌≡◌, true};

@@ -1,4 +1,6 @@
 // A group of servers that call servers: its types and limits, and the group that nobody has entered.
+#![tactic(auto)]
+
 ghost use Rattle.std.specs.Prelude.{◌≡◌};
 ghost use Rattle.group_rules.specs.Groups.{no_tickets, no_calls, none_entered};
 

@@ -1,4 +1,5 @@
 // What a line of text says of a group: a word, and numbers behind it with exactly one space before each.
+#![tactic(auto)]
 
 ghost use Rattle.std.specs.Prelude.{◌≡◌, true, length, take};
 ghost use Rattle.std.proofs.Math.Option.{none};

@@ -1,4 +1,5 @@
 // Whether a group is sound, in every clause of the definition. A group of any contents has an answer.
+#![tactic(auto)]
 
 ghost use Rattle.std.specs.Prelude.{◌≡◌, ◌||◌, eqb, ◌<◌};
 ghost use Rattle.group_rules.specs.Limits.{max_contexts};

@@ -1,6 +1,8 @@
 // The doors of a group: one event on any group whatever, with the check of soundness; who blocks a context, and to whom
 // it delegates. Beside them the inner door for callers that hold a sound group: the same without the check, and it
 // keeps soundness.
+#![tactic(auto)]
+
 ghost use Rattle.std.specs.Prelude.{◌≡◌, true};
 ghost use Rattle.group_rules.specs.Sound.{sound_of};
 ghost use Rattle.group_rules.specs.Events.{said};

@@ -1,4 +1,5 @@
 // The line that tells what an event did: its index, its answer, and a field for each context after it.
+#![tactic(auto)]
 
 ghost use Rattle.std.specs.Prelude.{◌+◌, ◌≤◌, length};
 ghost use Rattle.text.specs.Text.{WroteAt};

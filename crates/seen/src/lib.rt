@@ -1,4 +1,5 @@
 // Who stands in a queue of places, each once: a line's clients, or the servers on a stack.
+#![tactic(auto)]
 
 ghost use Rattle.std.specs.Prelude.{◌≡◌};
 ghost use Rattle.sets.specs.Sets.{member};

@@ -1,31 +1,12 @@
 -- `seen::queue_seen` meets its contract: who is seen from here on is who is seen in the whole queue.
 -- Assumes nothing.
-use Prim.Native.Nat.{◌-◌}
-use mathlib.Core.Path.{◌≡◌, refl, sym, ◌∙◌}
-use mathlib.Core.Bool.{cond}
-use mathlib.Core.Logic.{⊎_elim}
-use mathlib.Core.Option.{some, none}
+use mathlib.Core.Path.{refl, sym, ◌∙◌}
 use native.Mathlib.Omega.{arith}
 use lib.ListN.{drop}
-use Rattle.rules.specs.Limits.{unused_place}
 use Rattle.sets.specs.Sets.{member}
-use Rattle.places.specs.Places.{holds_only}
-use Rattle.seen.specs.Seen.{queue_seen}
-use Rattle.seen.proofs.Queues.{queue-turn, queue-bad, queue-twice, queue-end, ended_here, ended-past}
+use Rattle.seen.proofs.Queues.{Ended, queue-turn, queue-bad, queue-twice, queue-end, ended_here, ended-past}
 use Rattle.seen.proofs.queue_seen.Goals as goal
-
--- where the loop is left, by either way, nobody is left to see
-rest : (c : goal.Left-loop-i)
-    → queue_seen (member c.args.known)
-    (drop c.loop-i.i c.args.q.now) c.loop-i.everyone
-    ≡ cond (holds_only unused_place (drop c.loop-i.i c.args.q.now))
-    (some c.loop-i.everyone) none
-rest c =
-    let o = c.loop-i in
-    let a = c.args in
-    queue-end (member a.known) (drop o.i a.q.now) o.everyone
-    (⊎_elim (λ w. ended-past a.q.now o.i (omega arith))
-    (λ w. ended_here a.q.now o.i (omega arith) w.2.taken) c.loop-i-test.branch)
+use Rattle.seen.proofs.queue_seen.Goals.{else-loop-i-test, then-loop-i-test+then-q-i}
 
 pub loop-i-init : goal.loop-i-init
 loop-i-init c = (omega arith, refl)
@@ -70,8 +51,26 @@ loop-i-preserved c =
 
 pub returns-then-not-holds_only_from : goal.returns-then-not-holds_only_from
 returns-then-not-holds_only_from c =
-    sym (rest l ∙ rw (sym c.holds_only_from.ensures ∙ c.if-not-holds_only_from.true)) ∙ c.loop-i.invariant.1
+    let o = c.loop-i in
+    let a = c.args in
+    let e : Ended (drop o.i a.q.now) =
+    elim c.loop-i-test.branch [
+      | else-loop-i-test w ↦ ended-past a.q.now o.i (omega arith)
+      | then-loop-i-test+then-q-i w ↦ ended_here a.q.now o.i (omega arith) w.if-q-i.true
+    ] in
+    sym (queue-end (member a.known) (drop o.i a.q.now) o.everyone e
+    ∙ rw (sym c.holds_only_from.ensures ∙ c.if-not-holds_only_from.true))
+    ∙ o.invariant.1
 
 pub returns : goal.returns
 returns c =
-    sym (rest l ∙ rw (sym c.holds_only_from.ensures ∙ c.if-not-holds_only_from.false)) ∙ c.loop-i.invariant.1
+    let o = c.loop-i in
+    let a = c.args in
+    let e : Ended (drop o.i a.q.now) =
+    elim c.loop-i-test.branch [
+      | else-loop-i-test w ↦ ended-past a.q.now o.i (omega arith)
+      | then-loop-i-test+then-q-i w ↦ ended_here a.q.now o.i (omega arith) w.if-q-i.true
+    ] in
+    sym (queue-end (member a.known) (drop o.i a.q.now) o.everyone e
+    ∙ rw (sym c.holds_only_from.ensures ∙ c.if-not-holds_only_from.false))
+    ∙ o.invariant.1

@@ -8,7 +8,7 @@ use Rattle.seen.specs.Seen.{queue_seen}
 use Rattle.seen.proofs.queue_seen.Given as goal
 
 abbrev pub invariant-loop-i : goal.invariant-loop-i
-invariant-loop-i l = 
+invariant-loop-i l =
     (l.i ≤ length l.q) × (queue_seen (member l.known) (drop l.i l.q) l.everyone ≡ queue_seen (member l.known) l.q l.others)
 
 abbrev pub decreases-loop-i : goal.decreases-loop-i

@@ -1,0 +1,36 @@
+-- `blocking::ticket_set` meets its contract: the loop holds the servers that it has passed.
+-- Assumes nothing.
+use mathlib.Core.Path.{◌≡◌, refl, ap, ◌∙◌}
+use native.Mathlib.Omega.{arith}
+use lib.ListN.{get_or}
+use Rattle.sets.specs.Sets.{set_of}
+use Rattle.group_rules.specs.Limits.{max_servers}
+use Rattle.blocking.specs.Queue.{with_ticket, ticket_set}
+use Rattle.blocking.proofs.Tickets.{ticket_for, ticket-more}
+use Rattle.blocking.proofs.ticket_set.Goals as goal
+
+pub loop-s-init : goal.loop-s-init
+unfolding set_of
+loop-s-init c = (omega arith, refl)
+
+pub overflow_add-s : goal.overflow_add-s
+overflow_add-s c = omega arith
+
+pub loop-s-smaller : goal.loop-s-smaller
+loop-s-smaller c = omega arith
+
+pub loop-s-preserved : goal.loop-s-preserved
+loop-s-preserved c =
+    let l = c.loop-s in
+    let counts = c.args.t.counts in (
+      omega arith,
+      c.with_ticket-set.ensures ∙ ap (λ x. with_ticket x (get_or counts l.s 0) l.s) l.invariant.1
+          ∙ ticket-more counts l.s (omega arith),
+    )
+
+pub returns : goal.returns
+unfolding ticket_set
+returns c =
+    let l = c.loop-s in
+    let e : l.s ≡ max_servers = omega arith in
+    l.invariant.1 ∙ ap (λ n. set_of n (ticket_for c.args.t.counts)) e
