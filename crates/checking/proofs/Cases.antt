@@ -116,7 +116,8 @@ heards = (refl, refl, refl, refl, refl, refl, refl, refl)
 
 -- our gate goes on by its own step, and the entry is counted, whether it differs or not
 pub goes_on :
-    ((entered_by (seen 3 Agrees) (record { number = 0; gate = gate 2 Tidying }) (says 12 none [])).gate ≡ gate 2 Tidying)
+    ((entered_by (seen 3 Agrees) (record { number = 0; gate = gate 2 Tidying }) (says 12 none [])).gate
+    ≡ gate 2 Tidying)
     × ((entered_by (seen 3 Agrees) (record { number = 0; gate = gate 2 Tidying }) (says 12 none [])).entries ≡ 4)
 goes_on = (refl, refl)
 

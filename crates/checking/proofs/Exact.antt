@@ -19,7 +19,8 @@ use Rattle.rules.specs.Sound.{Sound}
 use Rattle.rules.specs.Records.{Heard, is_version, heard_of, answer_of, step_of}
 use Rattle.rules.specs.Replay.{in_service, charges_below}
 use Rattle.rules.specs.Traces as rules
-use Rattle.rules.specs.Traces.{Seen, Traced, seen_after, seen_from, the_answer, the_served, the_charges, difference, refused}
+use Rattle.rules.specs.Traces.{Seen, Traced, seen_after, seen_from, the_answer, the_served, the_charges}
+use Rattle.rules.specs.Traces.{difference, refused}
 use Rattle.rules.specs.Traces.{agrees, differs, judged, compared, heards, reported, ruled, trace_verdict}
 use Rattle.rules.proofs.Tests.{by-test}
 use Rattle.rules.proofs.Setups.{allowed}

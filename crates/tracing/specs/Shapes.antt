@@ -1,7 +1,8 @@
 -- The lines of a trace by their numbers: the setup or entry that they say, and when an entry fits. The lines S, Z and C
 -- have the numbers of a log's items (`items`: `head_fits`, `sizes_form`, `row_form`).
 -- Assumes nothing.
-use Rattle.std.specs.Prelude.{ℕ, ◌+◌, ◌≤◌, Bool, ◌&&◌, ◌||◌, cond, List, [], ◌∷◌, eqb, leb, length, get_or, take, drop, set, replicate}
+use Rattle.std.specs.Prelude.{ℕ, ◌+◌, ◌≤◌, Bool, ◌&&◌, ◌||◌, cond, List, [], ◌∷◌, eqb, leb, length, get_or}
+use Rattle.std.specs.Prelude.{take, drop, set, replicate}
 use Rattle.std.proofs.Math.Option.{Option, some, none}
 use Rattle.rules.specs.Limits.{max_clusters, max_clients}
 use Rattle.rules.specs.Records.{Record}

@@ -6,7 +6,7 @@ use Rattle.checking.proofs.Same.{other_length, other-here, same_here, same-past}
 use Rattle.checking.proofs.same_charges.Goals as goal
 
 pub returns-then-theirs-ours : goal.returns-then-theirs-ours
-returns-then-theirs-ours c = let a = c.args in sym (other_length a.theirs.now a.ours.now c.if-theirs-ours.true)
+returns-then-theirs-ours c = let a = c.args in sym (other_length a.theirs.now a.ours.now (λ e. omega arith))
 
 pub loop-i-init : goal.loop-i-init
 loop-i-init c = (omega arith, omega arith, refl)

@@ -60,7 +60,8 @@ returns-then-not-narrowed c =
     let first-is : first ≡ charges_at v = omega (arith, c.answer_at-before.ensures.0) in
     let begins : entry_begins v vs ≡ true = sym c.entry_begins.ensures ∙ c.if-not-entry_begins.false in
     let n = c.narrowed in (
-      rw (begins, unmoved v vs first first-is n.ensures.value ∙ c.if-not-narrowed.true) c.malformed-then-not-narrowed.ensures,
+      rw (begins, unmoved v vs first first-is n.ensures.value ∙ c.if-not-narrowed.true)
+          c.malformed-then-not-narrowed.ensures,
       rw c.malformed-then-not-narrowed.ensures c.requires.going,
     )
 
