@@ -24,7 +24,7 @@ const ROOM: usize = order::MAX_BYTES + 2;
 pub const OUT: usize = PART * line::MOST;
 
 // What is held of the order that has not ended, the first n bytes of a room, and how many bytes were written.
-#[derive(Drop)]
+#[derive(Clone, Copy)]
 pub struct Held {
     room: [u8; ROOM],
     n: usize,
@@ -74,7 +74,7 @@ pub fn answer_end(held: Held, out: &mut [u8; OUT]) -> usize
 }
 
 // How many bytes are held, and how many were written.
-#[derive(Drop)]
+#[derive(Clone, Copy)]
 struct Standing {
     n: usize,
     used: usize,

@@ -9,7 +9,7 @@ ghost use Rattle.rules.specs.Quote.{order_of, quote, in_range, lines_fit, first_
 ghost use Rattle.quote.specs.Steps.{fields_out, LineIn, AllFit, most_of_line};
 ghost use Rattle.quote.specs.Told.{told, numbers_of};
 
-#[derive(Drop)]
+#[derive(Clone, Copy)]
 pub enum Answer {
     Accepted(u64),
     FieldOut(usize),
@@ -18,7 +18,7 @@ pub enum Answer {
 }
 
 // An answer as document 01 numbers it.
-#[derive(Drop)]
+#[derive(Clone, Copy)]
 pub struct Numbers {
     pub budget: u64,
     pub answer: u64,

@@ -12,7 +12,7 @@ ghost use Rattle.streams.specs.Whole.{Holds, Adds, ReadsWhole, standing_after};
 use std::io::{Read, Result, Write};
 
 // What one read gave.
-#[derive(Drop)]
+#[derive(Clone, Copy)]
 pub enum Got {
     Bytes(usize),
     End,
@@ -20,14 +20,14 @@ pub enum Got {
 }
 
 // How many bytes came, or that they can't be read.
-#[derive(Drop)]
+#[derive(Clone, Copy)]
 pub enum Whole {
     Bytes(usize),
     Failed,
 }
 
 // Where reading stands: how many bytes are held, of which there may be more, or what they are in all.
-#[derive(Drop)]
+#[derive(Clone, Copy)]
 pub enum Standing {
     More(usize),
     Done(Whole),
