@@ -4,3 +4,4 @@ pub mod WholeCases
 pub mod Standings
 pub mod Tests
 pub mod Known
+pub mod KnownCases

@@ -20,7 +20,7 @@ abbrev pub Within : List ℕ → Got → Type 0
 Within part g = (n : ℕ) → g ≡ Bytes n → IsPrefixLen n part × (0 < n)
 
 -- What a read into a part does to the bytes that the input still has, where those are known: those that came are its
--- first ones, at the end there are none, and where it fails all are still there.
+-- first ones, at the end there are none if the part has room, and where it fails all are still there.
 abbrev pub Reads : Option (List ℕ) → Option (List ℕ) → List ℕ → Got → Type 0
 Reads old new part (Bytes n) = Consumes old new (take n part)
 Reads old new part End = Keeps old new × (0 < length part → IsAtEnd new)
