@@ -4,6 +4,7 @@ use mathlib.Core.Bool.{cond}
 use mathlib.Core.Path.{◌∙◌, ◌≡◌, ap, ap₂, refl, sym}
 use mathlib.Core.Option.{some, none}
 use lib.Dec.{eqb}
+use Rattle.std.proofs.Common.{Result, Ok, Err}
 use Rattle.rules.specs.Events as rules
 use Rattle.rules.specs.Records as records
 use Rattle.rules.specs.Records.{known, reply_ready, unknown}
@@ -16,34 +17,34 @@ use Rattle.gate.specs.declared.Fresh.{Fresh}
 use Rattle.gate.specs.declared.Gate.{Gate}
 use Rattle.gate.specs.declared.Heard.{Heard}
 use Rattle.gate.specs.declared.Heard.TheVariants.{Known, ReplyReady, Unknown}
-use Rattle.gate.specs.declared.Verdict.{Verdict}
-use Rattle.gate.specs.declared.Verdict.TheVariants.{Accepted, BadClusters, BadRow, BadSize, ManyClients, NoCap}
+use Rattle.gate.specs.declared.Refusal.{Refusal}
+use Rattle.gate.specs.declared.Refusal.TheVariants.{BadClusters, BadRow, BadSize, ManyClients, NoCap}
 
 -- the case of what is told; of a number that no case has, any
-verdict_for : Told → Verdict
+verdict_for : Told → Result (Unit {0}) Refusal
 verdict_for t =
-    cond (eqb t.number accepted) Accepted
-    (cond (eqb t.number bad_clusters) BadClusters
-    (cond (eqb t.number no_cap) NoCap
-    (cond (eqb t.number many_clients) ManyClients
-    (cond (eqb t.number bad_size) (BadSize t.which)
-    (BadRow t.which)))))
+    cond (eqb t.number accepted) (Ok tt)
+    (cond (eqb t.number bad_clusters) (Err BadClusters)
+    (cond (eqb t.number no_cap) (Err NoCap)
+    (cond (eqb t.number many_clients) (Err ManyClients)
+    (cond (eqb t.number bad_size) (Err (BadSize t.which))
+    (Err (BadRow t.which))))))
 
-verdict-back : (v : Verdict) → verdict_for (told v) ≡ v
+verdict-back : (v : Result (Unit {0}) Refusal) → verdict_for (told v) ≡ v
 unfolding verdict_for
-verdict-back Accepted = refl
-verdict-back BadClusters = refl
-verdict-back NoCap = refl
-verdict-back ManyClients = refl
-verdict-back (BadSize k) = refl
-verdict-back (BadRow c) = refl
+verdict-back (Ok tt) = refl
+verdict-back (Err BadClusters) = refl
+verdict-back (Err NoCap) = refl
+verdict-back (Err ManyClients) = refl
+verdict-back (Err (BadSize k)) = refl
+verdict-back (Err (BadRow c)) = refl
 
-pub one-verdict : (a b : Verdict) → told a ≡ told b → a ≡ b
+pub one-verdict : (a b : Result (Unit {0}) Refusal) → told a ≡ told b → a ≡ b
 one-verdict a b e = sym (verdict-back a) ∙ ap verdict_for e ∙ verdict-back b
 
 pub one-fresh : (a b : Fresh) → made_of a ≡ made_of b → a ≡ b
 one-fresh a b e =
-    ap₂ (λ (v : Verdict) (g : Gate). record { verdict = v; gate = g })
+    ap₂ (λ (v : Result (Unit {0}) Refusal) (g : Gate). record { verdict = v; gate = g })
     (one-verdict a.verdict b.verdict (ap (λ (m : Made). m.told) e)) (ap (λ (m : Made). m.gate) e)
 
 -- the record that says it

@@ -1,33 +1,56 @@
 -- Laws of a list with zeros from a place on.
 -- Assumes nothing.
-use Prim.Native.Nat.{ℕ, zero, suc, ◌+◌, ◌≤◌}
+use Prim.Native.Nat.{ℕ, zero, suc, ◌-◌, ◌≤◌, min}
 use mathlib.Core.Path.{◌≡◌, refl, sym, ap, ◌∙◌}
 use mathlib.Core.Bool.{Bool, true, false, cond}
-use mathlib.Core.List.{List, [], ◌∷◌}
-use native.Mathlib.Numerals.{add-one}
+use mathlib.Core.List.{List, [], ◌∷◌, ◌++◌}
 use native.Mathlib.Omega.{arith}
-use lib.ListN.{length, get_or, set}
+use lib.ListN.{length, get_or, take, drop, replicate}
 use lib.Dec.{ltb}
 use borrow.Author.Tests.{ltb-true, ltb-false, lt-ltb, le-ltb}
+use borrow.Rule.Slice.PartMut.{post_of}
+use Rattle.std.proofs.Common.{length-drop, append-nil}
+use Rattle.std.proofs.lemmas.List.{drop_all, take_all}
 use Rattle.rules.specs.Setup.{up_to}
 use Rattle.rules.proofs.Tests.{by-test}
 use Rattle.gate.specs.Made.{zero_past}
 
--- one place more is set to 0
-zeros-suc : (i : ℕ) (q : List ℕ) → zero_past (suc i) (set q i 0) ≡ zero_past i q
+-- the first n places, and then zeros
+zeros-all : (q : List ℕ) → replicate (length q) 0 ≡ zero_past 0 q
 unfolding zero_past
-zeros-suc i [] = refl
-zeros-suc zero (x ∷ q) = refl
-zeros-suc (suc i) (x ∷ q) = ap (λ l. x ∷ l) (zeros-suc i q)
+zeros-all [] = refl
+zeros-all (x ∷ q) = ap (λ l. 0 ∷ l) (zeros-all q)
 
-pub zeros-turn : (i : ℕ) (q : List ℕ) → zero_past (i + 1) (set q i 0) ≡ zero_past i q
-zeros-turn i q = rw (add-one i) (zeros-suc i q)
-
-pub zeros-end : (i : ℕ) (q : List ℕ) → length q ≤ i → zero_past i q ≡ q
+zeros_past : (n : ℕ) (q : List ℕ) → take n q ++ replicate (length q - n) 0 ≡ zero_past n q
 unfolding zero_past
-zeros-end i [] h = refl
+zeros_past zero q = let h : length q - 0 ≡ length q = omega arith in rw h (zeros-all q)
+zeros_past (suc n) [] = let h : 0 - suc n ≡ 0 = omega arith in ap (λ (m : ℕ). replicate m 0) h
+zeros_past (suc n) (x ∷ q) =
+    let h : suc (length q) - suc n ≡ length q - n = omega arith in
+    rw h (ap (λ l. x ∷ l) (zeros_past n q))
+
+-- no place stands past the end
+zeros-end : (n : ℕ) (q : List ℕ) → length q ≤ n → zero_past n q ≡ q
+unfolding zero_past
+zeros-end n [] h = refl
 zeros-end zero (x ∷ q) h = absurd (omega arith)
-zeros-end (suc i) (x ∷ q) h = ap (λ l. x ∷ l) (zeros-end i q (omega arith))
+zeros-end (suc n) (x ∷ q) h = ap (λ l. x ∷ l) (zeros-end n q (omega arith))
+
+zeros-within : (n : ℕ) (q : List ℕ) → zero_past (min n (length q)) q ≡ zero_past n q
+zeros-within n q = by-test (ltb n (length q))
+    (λ e. let h : min n (length q) ≡ n = omega (arith, ltb-true n (length q) e) in rw h)
+    (λ e. let h : min n (length q) ≡ length q = omega (arith, ltb-false n (length q) e) in
+    rw (h, zeros-end (length q) q (omega arith), zeros-end n q (omega (arith, ltb-false n (length q) e))))
+
+-- zeros written over what stands from place k on, which is n or the length
+pub zeros-over : (k n w : ℕ) (q z : List ℕ) → k ≡ min n w → w ≡ length q
+    → z ≡ replicate (length (take (length q - k) (drop k q))) 0
+    → take k q ++ (z ++ post_of k (length q - k) q) ≡ zero_past n q
+zeros-over k n w q z e f h =
+    let r : length (drop k q) ≡ length q - k = length-drop k q in
+    let p : post_of k (length q - k) q ≡ [] = drop_all (length q - k) (drop k q) (omega (arith, r)) in
+    let t : take (length q - k) (drop k q) ≡ drop k q = take_all (length q - k) (drop k q) (omega (arith, r)) in
+    rw (h, p, t, r, append-nil {A = ℕ} (replicate (length q - k) 0), zeros_past k q, e, f) (zeros-within n q)
 
 pub length-zeros : (n : ℕ) (q : List ℕ) → length (zero_past n q) ≡ length q
 unfolding zero_past

@@ -1,16 +1,16 @@
 -- What the check of a setup answers, and the gate that is made of it.
 -- Assumes nothing.
-use Rattle.std.specs.Prelude.{ℕ, zero, suc, Bool, false, cond, List, [], ◌∷◌, eqb, get_or}
+use Rattle.std.specs.Prelude.{ℕ, zero, suc, false, cond, List, [], ◌∷◌, eqb, Result, Ok, Err}
 use Rattle.rules.specs.Limits.{max_clusters, max_clients}
 use Rattle.rules.specs.Refusals.{accepted, bad_clusters, no_cap, many_clients, bad_size, bad_row}
 use Rattle.rules.specs.Setup as rules
-use Rattle.rules.specs.Setup.{fit_size, fit_row, setup_answer, first_bad_size, first_bad_row}
+use Rattle.rules.specs.Setup.{setup_answer, first_bad_size, first_bad_row}
 use Rattle.rules.specs.State.{fresh}
 use Rattle.gate.specs.Shown.{setup_of, shown, table}
 use Rattle.gate.specs.declared.Setup.{Setup}
 use Rattle.gate.specs.declared.Gate.{Gate}
-use Rattle.gate.specs.declared.Verdict.{Verdict}
-use Rattle.gate.specs.declared.Verdict.TheVariants.{Accepted, BadClusters, NoCap, ManyClients, BadSize, BadRow}
+use Rattle.gate.specs.declared.Refusal.{Refusal}
+use Rattle.gate.specs.declared.Refusal.TheVariants.{BadClusters, NoCap, ManyClients, BadSize, BadRow}
 use Rattle.gate.specs.declared.Fresh.{Fresh}
 
 -- VERDICTS
@@ -21,13 +21,13 @@ pub record Told : Type 0 where
   pub which : ℕ
 
 -- Each case's number and values.
-abbrev pub told : Verdict → Told
-told Accepted = record { number = accepted; which = 0 }
-told BadClusters = record { number = bad_clusters; which = 0 }
-told NoCap = record { number = no_cap; which = 0 }
-told ManyClients = record { number = many_clients; which = 0 }
-told (BadSize k) = record { number = bad_size; which = k }
-told (BadRow c) = record { number = bad_row; which = c }
+abbrev pub told : Result (Unit {0}) Refusal → Told
+told (Ok a) = record { number = accepted; which = 0 }
+told (Err BadClusters) = record { number = bad_clusters; which = 0 }
+told (Err NoCap) = record { number = no_cap; which = 0 }
+told (Err ManyClients) = record { number = many_clients; which = 0 }
+told (Err (BadSize k)) = record { number = bad_size; which = k }
+told (Err (BadRow c)) = record { number = bad_row; which = c }
 
 -- Refused because of a size or a row, it also tells which.
 unfoldable pub verdict_of : rules.Setup → Told
@@ -36,13 +36,6 @@ verdict_of u = record {
   which = cond (eqb (setup_answer u) bad_size) (first_bad_size u)
       (cond (eqb (setup_answer u) bad_row) (first_bad_row u) 0);
 }
-
--- the tests of a size and of a row, over the bytes
-abbrev pub size_fits_in : List ℕ → ℕ → Bool
-size_fits_in sizes k = fit_size (get_or sizes k 0)
-
-abbrev pub row_fits_in : List ℕ → List ℕ → ℕ → ℕ → Bool
-row_fits_in kinds homes k c = fit_row k (get_or kinds c 0) (get_or homes c 0)
 
 -- THE GATE
 

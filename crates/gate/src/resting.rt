@@ -3,57 +3,21 @@
 ghost use Rattle.std.specs.Prelude.{◌≡◌};
 ghost use Rattle.rules.specs.State.{fresh};
 ghost use Rattle.gate.specs.Shown.{shown};
-ghost use Rattle.gate.specs.Made.{zero_past, trimmed_in, empty_bytes};
+ghost use Rattle.gate.specs.Made.{trimmed_in, empty_bytes};
 
-use crate::{Gate, Line, Server, Setup, wide};
-
-// 0 in place of what stands from place n on.
-fn zero_past(q: &mut [u8], n: usize)
-    ensures { q.new ≡ zero_past n q.old }
-{
-    let mut i = n;
-    while i < q.len() {
-        q[i] = 0;
-        i += 1;
-    }
-}
-
-// The same of priorities.
-fn zero_priorities_past(q: &mut [u16], n: usize)
-    ensures { q.new ≡ zero_past n q.old }
-{
-    let mut i = n;
-    while i < q.len() {
-        q[i] = 0;
-        i += 1;
-    }
-}
+use crate::{Gate, Line, Server, Setup};
 
 // The setup with zeros past N and K.
-pub fn trimmed(s: Setup) -> Setup
+pub fn trimmed(mut s: Setup) -> Setup
     ensures { result ≡ trimmed_in s }
 {
-    let k = wide(s.clusters);
-    let n = wide(s.clients);
-    let mut sizes = s.sizes;
-    zero_past(&mut sizes, k);
-    let mut kinds = s.kinds;
-    zero_past(&mut kinds, n);
-    let mut homes = s.homes;
-    zero_past(&mut homes, n);
-    let mut priorities = s.priorities;
-    zero_priorities_past(&mut priorities, n);
-    Setup {
-        clusters: s.clusters,
-        clients: s.clients,
-        cap: s.cap,
-        tidy: s.tidy,
-        timed: s.timed,
-        sizes: sizes,
-        kinds: kinds,
-        homes: homes,
-        priorities: priorities,
-    }
+    let k = usize::from(s.clusters).min(Gate::MAX_CLUSTERS);
+    let n = usize::from(s.clients).min(Gate::MAX_CLIENTS);
+    s.sizes[k..].fill(0);
+    s.kinds[n..].fill(0);
+    s.homes[n..].fill(0);
+    s.priorities[n..].fill(0);
+    s
 }
 
 // The setup of the empty gate.

@@ -1,109 +1,82 @@
 // The check of a setup: whether it is accepted, and why not.
 
-ghost use Rattle.std.specs.Prelude.{◌≡◌, ◌≤◌, eqb, length};
-ghost use Rattle.rules.specs.Lists.{first_failing};
+ghost use Rattle.std.specs.Prelude.{◌≡◌, eqb, not, position};
+ghost use Rattle.std.specs.List.{zip};
 ghost use Rattle.rules.specs.Refusals.{accepted};
 ghost use Rattle.rules.specs.Setup.{fit_size, fit_row};
 ghost use Rattle.gate.specs.Shown.{setup_of};
-ghost use Rattle.gate.specs.Made.{size_fits_in, row_fits_in, verdict_of, told};
+ghost use Rattle.gate.specs.Made.{verdict_of, told};
 
-use crate::{Gate, Setup, Verdict, wide};
+use crate::{Gate, Refusal, Setup};
 
 fn size_fits(m: u8) -> bool
     ensures { result ≡ fit_size m }
 {
-    if m < 1 {
-        return false;
-    }
-    wide(m) <= Gate::MAX_SIZE
+    1 <= m && usize::from(m) <= Gate::MAX_SIZE
 }
 
 fn row_fits(kind: u8, home: u8, k: u8) -> bool
     ensures { result ≡ fit_row k kind home }
 {
-    if kind > 1 {
-        return false;
-    }
-    home < k
+    kind <= 1 && home < k
 }
 
-// The first of n sizes that is not 1 to 8, or n.
-fn first_bad_size(sizes: &[u8], n: usize) -> usize
-    requires { n ≤ length sizes.now }
-    ensures { result ≡ first_failing (size_fits_in sizes.now) n }
+// The first size that is not 1 to 8.
+fn first_bad_size(sizes: &[u8]) -> Option<usize>
+    ensures { result ≡ position (λ m. not (fit_size m)) sizes.now }
 {
-    let mut k = 0;
-    while k < n {
-        if !size_fits(sizes[k]) {
-            return k;
-        }
-        k += 1;
-    }
-    k
+    sizes.iter().position(|m| !size_fits(*m))
 }
 
-// The first of n rows whose kind is not 0 or 1, or whose cluster is not below k, or n.
-fn first_bad_row(kinds: &[u8], homes: &[u8], k: u8, n: usize) -> usize
-    requires { (n ≤ length kinds.now) × (n ≤ length homes.now) }
-    ensures { result ≡ first_failing (row_fits_in kinds.now homes.now k) n }
+// The first row whose kind is not 0 or 1, or whose cluster is not below k.
+fn first_bad_row(kinds: &[u8], homes: &[u8], k: u8) -> Option<usize>
+    ensures { result ≡ position (λ r. not (fit_row k r.0 r.1)) (zip kinds.now homes.now) }
 {
-    let mut c = 0;
-    while c < n {
-        if !row_fits(kinds[c], homes[c], k) {
-            return c;
-        }
-        c += 1;
-    }
-    c
+    kinds
+        .iter()
+        .zip(homes)
+        .position(|(kind, home)| !row_fits(*kind, *home, k))
 }
 
 // Whether a setup is accepted, checked in the order 1, 2, 3, 4, 5.
-pub fn setup_verdict(s: Setup) -> Verdict
+pub fn setup_verdict(s: Setup) -> Result<(), Refusal>
     ensures { told result ≡ verdict_of (setup_of s) }
 {
-    let k = wide(s.clusters);
-    if k < 1 {
-        return Verdict::BadClusters;
-    }
-    if k > Gate::MAX_CLUSTERS {
-        return Verdict::BadClusters;
+    let k = usize::from(s.clusters);
+    if k < 1 || k > Gate::MAX_CLUSTERS {
+        return Err(Refusal::BadClusters);
     }
     if s.cap == 0 {
-        return Verdict::NoCap;
+        return Err(Refusal::NoCap);
     }
-    let n = wide(s.clients);
+    let n = usize::from(s.clients);
     if n > Gate::MAX_CLIENTS {
-        return Verdict::ManyClients;
+        return Err(Refusal::ManyClients);
     }
-    let sizes = s.sizes;
-    let bad = first_bad_size(&sizes, k);
-    if bad < k {
-        return Verdict::BadSize(bad);
+    if let Some(bad) = first_bad_size(&s.sizes[..k]) {
+        return Err(Refusal::BadSize(bad));
     }
-    let kinds = s.kinds;
-    let homes = s.homes;
-    let row = first_bad_row(&kinds, &homes, s.clusters, n);
-    if row < n {
-        return Verdict::BadRow(row);
+    if let Some(row) = first_bad_row(&s.kinds[..n], &s.homes[..n], s.clusters) {
+        return Err(Refusal::BadRow(row));
     }
-    Verdict::Accepted
+    Ok(())
 }
 
 // A verdict's number.
-pub fn number(v: Verdict) -> u64
+pub fn number(v: Result<(), Refusal>) -> u64
     ensures { result ≡ (told v).number }
 {
     match v {
-        Verdict::Accepted => 0,
-        Verdict::BadClusters => 1,
-        Verdict::NoCap => 2,
-        Verdict::ManyClients => 3,
-        Verdict::BadSize(_) => 4,
-        Verdict::BadRow(_) => 5,
+        Ok(()) => 0,
+        Err(Refusal::BadClusters) => 1,
+        Err(Refusal::NoCap) => 2,
+        Err(Refusal::ManyClients) => 3,
+        Err(Refusal::BadSize(_)) => 4,
+        Err(Refusal::BadRow(_)) => 5,
     }
 }
 
-pub fn is_accepted(v: Verdict) -> bool
+pub fn is_accepted(v: Result<(), Refusal>) -> bool
     ensures { result ≡ eqb (told v).number accepted }
 {
     number(v) == 0
