@@ -8,10 +8,10 @@ use mathlib.Core.Option.{Option, some, none}
 use Rattle.sets.specs.Sets.{member, set_of}
 use Rattle.places.specs.Places.{unpad, holds_only, used_first}
 use Rattle.places.specs.Tests.{every}
-use Rattle.seen.specs.declared.Seen.TheVariants.{Unsound, Once}
+use Rattle.std.proofs.Common.{Some, None}
 use Rattle.seen.specs.Seen.{seen_of, seen_from, seen_if, queue_seen}
 
-told-cases : (seen_of Unsound ≡ none) × (seen_of (Once 0) ≡ some 0) × (seen_of (Once 13) ≡ some 13)
+told-cases : (seen_of None ≡ none) × (seen_of (Some 0) ≡ some 0) × (seen_of (Some 13) ≡ some 13)
 told-cases = (refl, refl, refl)
 
 -- 3 and 1 after nobody, and after 4; nobody after 4; 3 twice, next to itself and not; 3 after 3; 64 is in no set, so

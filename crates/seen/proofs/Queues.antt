@@ -64,3 +64,8 @@ pub queue-end : (p : ℕ → Bool) (q : List ℕ) (s : ℕ) → Ended q
     → queue_seen p q s ≡ cond (holds_only unused_place q) (some s) none
 unfolding queue_seen every seen_from
 queue-end p q s h = rw (h.nobody, h.rest) (by-test (holds_only unused_place q) (λ e. rw e) (λ e. rw e))
+
+-- past the last place nobody is left
+pub queue-past : (p : ℕ → Bool) (q : List ℕ) (s i : ℕ) → length q ≤ i → queue_seen p (drop i q) s ≡ some s
+unfolding queue_seen unpad used_first every seen_from
+queue-past p q s i b = rw (drop_of_length-le q {i = i} b)

@@ -1,17 +1,17 @@
 -- Who is seen in a queue of places, each once.
 -- Assumes nothing.
 use Rattle.std.specs.Prelude.{ℕ, Bool, ◌&&◌, cond, List, [], ◌∷◌}
+use Rattle.std.specs.Prelude as code
+use Rattle.std.specs.Prelude.{Some, None}
 use Rattle.std.proofs.Math.Option.{Option, some, none}
 use Rattle.sets.specs.Sets.{member, with_of}
 use Rattle.places.specs.Places.{unpad, used_first}
 use Rattle.places.specs.Tests.{every}
-use Rattle.seen.specs.declared.Seen as code
-use Rattle.seen.specs.declared.Seen.TheVariants.{Unsound, Once}
 
 -- Each case's set, if any.
-abbrev pub seen_of : code.Seen → Option ℕ
-seen_of Unsound = none
-seen_of (Once s) = some s
+abbrev pub seen_of : code.Option ℕ → Option ℕ
+seen_of None = none
+seen_of (Some s) = some s
 
 -- the set s with those of the list, unless one of them is met twice
 unfoldable pub seen_from : ℕ → List ℕ → Option ℕ
