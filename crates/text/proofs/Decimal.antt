@@ -7,7 +7,7 @@ use mathlib.Core.Path.{◌≡◌, sym, ap, ◌∙◌}
 use mathlib.Core.List.{[], ◌∷◌, ◌++◌}
 use lib.Dec.{ltb}
 use lib.ListN.{length, length-append}
-use borrow.Author.Tests.{lt-ltb, le-ltb}
+use borrow.Author.Tests.{lt-ltb, le-ltb, ltb-true, ltb-false}
 use Rattle.rules.proofs.Tests.{by-test}
 use Rattle.text.specs.Text.{first_digit, decimal_in, decimal}
 
@@ -51,3 +51,21 @@ length-digit n h = ap length (sym (decimal_digit n h))
 pub length_more : (n : ℕ) → n < 2 ^ 64 → 10 ≤ n → length (decimal n) ≡ length (decimal (n / 10)) + 1
 length_more n h big =
     ap length (sym (decimal-more n h big)) ∙ length-append (decimal (n / 10)) ((first_digit + n % 10) ∷ [])
+
+pow-above : (k : ℕ) → 1 ≤ 10 ^ k
+pow-above zero = omega arith
+pow-above (suc k) = rw (pow-suc 10 k) (omega (arith, pow-above k))
+
+-- a number from 10^k on has k + 1 digits at least, and so those many where it is below 10^(k + 1)
+long : (k n : ℕ) → n < 2 ^ 64 → 10 ^ k ≤ n → suc k ≤ length (decimal n)
+long zero n h least =
+    by-test (ltb n 10) (λ y. omega (arith, length-digit n (ltb-true n 10 y)))
+    (λ y. omega (arith, length_more n h (ltb-false n 10 y)))
+long (suc k) n h least =
+    let more : 10 ^ k * 10 ≤ n = rw (pow-suc 10 k) at least in
+    let some : 1 ≤ 10 ^ k = pow-above k in
+    omega (arith, length_more n h (omega arith), long k (n / 10) (omega arith) (omega arith))
+
+pub length_between : (k n : ℕ) → n < 2 ^ 64 → 10 ^ k ≤ n → n < 10 * 10 ^ k → suc k ≡ length (decimal n)
+length_between k n h least most =
+    omega (arith, long k n h least, decimal-short k n (rw (pow-suc 10 k) (omega arith)))

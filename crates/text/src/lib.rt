@@ -41,12 +41,9 @@ pub fn put_bytes(out: &mut [u8], at: usize, s: &[u8]) -> usize
     requires { at + length s.now ≤ length out.old }
     ensures { WroteAt at s.now out.old out.new result }
 {
-    let mut i = 0;
-    while i < s.len() {
-        out[at + i] = s[i];
-        i += 1;
-    }
-    at + i
+    let end = at + s.len();
+    out[at..end].copy_from_slice(s);
+    end
 }
 
 // More bytes behind the n that are held in a room, as many as have room; and how many are held then.
@@ -56,7 +53,7 @@ pub fn hold(room: &mut [u8], n: usize, more: &[u8]) -> usize
     ensures room_after { take result room.new
         ≡ take (length room.old) (take n room.old ++ more.now) }
 {
-    let k = least(more.len(), room.len() - n);
+    let k = more.len().min(room.len() - n);
     put_bytes(room, n, &more[..k])
 }
 
@@ -64,13 +61,10 @@ pub fn hold(room: &mut [u8], n: usize, more: &[u8]) -> usize
 fn digits(n: u64) -> usize
     ensures { result ≡ length (decimal n) }
 {
-    let mut v = n;
-    let mut k = 1;
-    while v >= 10 {
-        v = v / 10;
-        k += 1;
+    match n.checked_ilog10() {
+        Some(k) => k as usize + 1,
+        None => 1,
     }
-    k
 }
 
 // The digits of a number from a place on, the last written first.

@@ -30,12 +30,12 @@ pub fn wide_size(x: usize) -> u64
 pub fn least(a: usize, b: usize) -> usize
     ensures { result ≡ min a b }
 {
-    if a < b { a } else { b }
+    a.min(b)
 }
 
 // One more; the last number stays.
 pub fn next_count(n: u64) -> u64
     ensures { result ≡ next_count n }
 {
-    if n < u64::MAX { n + 1 } else { n }
+    n.saturating_add(1)
 }

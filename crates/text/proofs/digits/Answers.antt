@@ -1,20 +1,13 @@
--- `text::digits` meets its contract. The loop's invariant: the digits counted, with those of what is left, are one more
--- than those of the number. The measure is what is left: its tenth is smaller. Assumes nothing.
+-- `text::digits` meets its contract: a number between two powers of ten has as many digits as the larger one has zeros.
+-- Assumes nothing.
 use native.Mathlib.Omega.{arith}
-use Rattle.text.proofs.Decimal.{decimal-short, length-digit, length_more}
+use Rattle.text.proofs.Decimal.{length-digit, length_between}
 use Rattle.text.proofs.digits.Goals as goal
 
-pub loop-v-init : goal.loop-v-init
-loop-v-init c = omega arith
+pub returns-in-Some : goal.returns-in-Some
+returns-in-Some c =
+    let e = c.in-Some.ensures in
+    omega (arith, length_between c.in-Some.k c.args.n (omega arith) e.power_le e.next_power_gt)
 
-pub overflow_add-k : goal.overflow_add-k
-overflow_add-k c = omega (arith, decimal-short 19 c.args.n (omega arith))
-
-pub loop-v-smaller : goal.loop-v-smaller
-loop-v-smaller c = omega arith
-
-pub loop-v-preserved : goal.loop-v-preserved
-loop-v-preserved c = omega (arith, length_more c.loop-v.v (omega arith) (omega arith))
-
-pub returns : goal.returns
-returns c = omega (arith, length-digit c.loop-v.v (omega arith))
+pub returns-in-None : goal.returns-in-None
+returns-in-None c = omega (arith, length-digit c.args.n (omega (arith, c.in-None.ensures.none)))
