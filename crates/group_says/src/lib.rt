@@ -12,7 +12,7 @@ ghost use Rattle.group_says.specs.Says.{entry_in, call_in, reply_in, by_word, sa
 
 use group_rules::{Context, Event, Server, Tickets, no_tickets};
 use lines::{MAX_LINE, fit};
-use numerals::{Long, long_value};
+use numerals::long_value;
 use text::{BITS_8, BITS_64, SPACE};
 
 // The most numbers of a line: context, timestamp, first call, and the tickets for each server.
@@ -57,7 +57,7 @@ fn read_numbers(s: &[u8], v: &mut [u64]) -> usize
             return 0;
         }
         let e = fields::end(s, a, SPACE);
-        let Long::Number(x) = long_value(&s[a..e]) else {
+        let Some(x) = long_value(&s[a..e]) else {
             return 0;
         };
         v[n] = x;

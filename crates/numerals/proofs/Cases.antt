@@ -5,7 +5,7 @@ use mathlib.Core.Path.{◌≡◌, refl}
 use mathlib.Core.List.{List, [], ◌∷◌}
 use mathlib.Core.Option.{Option, some, none}
 use lib.IntN.{ℤ, pos, negsuc}
-use Rattle.numerals.specs.declared.Long.TheVariants as case
+use Rattle.std.specs.Prelude.{Some, None}
 use Rattle.numerals.specs.Numbers.{field_of}
 use Rattle.numerals.specs.Plain.{no_plain, plain_of, long_told, long_of}
 
@@ -134,5 +134,5 @@ unfolding long_of
 not-long = (refl, refl, refl, refl, refl, refl, refl, refl, refl, refl, refl)
 
 -- what the code answers
-pub told : (long_told (case.Number 5) ≡ some 5) × (long_told case.None ≡ none)
+pub told : (long_told (Some 5) ≡ some 5) × (long_told None ≡ none)
 told = (refl, refl)

@@ -32,9 +32,6 @@ module _ (f : List ℕ) (n i : ℕ) (there : i < length f) where
   spelt-at : spelt n (drop i f) ≡ cond (is_digit (get_or f i 0)) (spelt next (drop (i + 1) f)) none
   spelt-at = rw (add-one, drop-cons f i 0)
 
-  pub stops : is_digit (get_or f i 0) ≡ false → up_to max_count (spelt n (drop i f)) ≡ none
-  stops e = rw (spelt-at, e)
-
   pub overflows : is_digit (get_or f i 0) ≡ true → max_count < next → up_to max_count (spelt n (drop i f)) ≡ none
   overflows e h = rw (goes_on f n i there e) (spelt-large next (drop (i + 1) f) h)
 

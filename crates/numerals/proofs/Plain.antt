@@ -1,20 +1,21 @@
 -- Plain numbers: from the size of a field's digits, and from what is written.
 -- Assumes nothing.
+use Rattle.std.specs.Prelude as code
+use Rattle.std.specs.Prelude.{unwrap_or}
 use Prim.Native.Nat.{ℕ, zero, suc, ◌+◌, ◌-◌, ◌*◌, ◌/◌, ◌%◌, ◌^◌, ◌≤◌, ◌<◌, min}
 use native.Mathlib.Omega.{arith}
 use mathlib.Core.Path.{◌≡◌, refl, sym, ap, ◌∙◌}
 use mathlib.Core.Bool.{false}
 use mathlib.Core.List.{List, [], ◌∷◌, ◌++◌}
 use mathlib.Core.Option.{Option, some, none}
-use lib.Dec.{eqb, ltb, leb}
+use lib.Dec.{ltb, leb}
 use lib.ListN.{length, get_or, get_or-append}
 use borrow.Author.Tests.{leb-false, ltb-true, ltb-false, ne_eqb}
 use Rattle.rules.proofs.Tests.{by-test}
-use Rattle.text.specs.Text.{first_digit, decimal}
+use Rattle.text.specs.Text.{first_digit, max_count, decimal}
 use Rattle.text.proofs.Decimal.{decimal_digit, decimal-more, length-digit, length_more}
 use Rattle.numerals.specs.Numbers.{is_digit, spelt}
-use Rattle.numerals.specs.Plain.{zero_first, no_plain, narrowed, plain_of}
-use Rattle.numerals.specs.Steps.{sized}
+use Rattle.numerals.specs.Plain.{zero_first, no_plain, narrowed, plain_of, long_told, up_to}
 use Rattle.numerals.proofs.Digits.{a-digit, some-digits}
 
 -- A FIELD
@@ -24,17 +25,19 @@ short-field [] h = refl
 short-field (b ∷ []) h = refl
 short-field (b ∷ c ∷ f) h = absurd (omega arith)
 
-pub long-field : (f : List ℕ) → 2 ≤ length f → eqb (get_or f 0 0) first_digit ≡ zero_first f
-long-field [] h = absurd (omega arith)
-long-field (b ∷ []) h = absurd (omega arith)
-long-field (b ∷ c ∷ f) h = refl
-
 -- a number that does not fit 64 bits does not fit 32 either
-pub narrow_size : (o : Option ℕ) → min (sized o) no_plain ≡ narrowed o
-narrow_size none = refl
-narrow_size (some n) =
-    by-test (leb n (2 ^ 63)) (λ e. rw e)
-    (λ e. let h : 2 ^ 63 < n = omega (arith, leb-false n (2 ^ 63) e) in rw e (omega arith))
+pub narrow_size : (o : Option ℕ) (r : code.Option ℕ) → long_told r ≡ up_to max_count o
+    → min (unwrap_or r no_plain) no_plain ≡ narrowed o
+narrow_size none code.None e = refl
+narrow_size none (code.Some k) e = let z : ◌≡◌ {A = ℕ} 0 1 = cc in absurd (omega arith)
+narrow_size (some n) code.None e =
+    by-test (leb n max_count)
+    (λ y. let q : ◌≡◌ {A = Option ℕ} none (some n) = rw y at e in let z : ◌≡◌ {A = ℕ} 0 1 = cc in absurd (omega arith))
+    (λ y. let h : max_count < n = omega (arith, leb-false n max_count y) in omega arith)
+narrow_size (some n) (code.Some k) e =
+    by-test (leb n max_count)
+    (λ y. let q : ◌≡◌ {A = Option ℕ} (some k) (some n) = rw y at e in let s : k ≡ n = cc in omega arith)
+    (λ y. let q : ◌≡◌ {A = Option ℕ} (some k) none = rw y at e in let z : ◌≡◌ {A = ℕ} 0 1 = cc in absurd (omega arith))
 
 -- READING UNDOES WRITING
 

@@ -1,10 +1,9 @@
 -- A field's text as a plain number: decimal, without a sign and without leading zeros; of 32 bits, or of 64.
 -- Assumes nothing.
 use Rattle.std.specs.Prelude.{ℕ, ◌^◌, min, Bool, false, cond, List, [], ◌∷◌, eqb, leb}
+use Rattle.std.specs.Prelude as code
 use Rattle.std.proofs.Math.Option.{Option, some, none}
 use Rattle.text.specs.Text.{first_digit, max_count}
-use Rattle.numerals.specs.declared.Long.{Long}
-use Rattle.numerals.specs.declared.Long.TheVariants as case
 use Rattle.numerals.specs.Numbers.{digits}
 
 -- two bytes or more, of which the first is '0'
@@ -44,6 +43,6 @@ unfoldable pub long_of : List ℕ → Option ℕ
 long_of text = up_to max_count (plain text)
 
 -- what the code answers
-abbrev pub long_told : Long → Option ℕ
-long_told case.None = none
-long_told (case.Number n) = some n
+abbrev pub long_told : code.Option ℕ → Option ℕ
+long_told code.None = none
+long_told (code.Some n) = some n

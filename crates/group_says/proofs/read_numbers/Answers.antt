@@ -85,7 +85,7 @@ loop-a-preserved c =
     = number-here (c.loop-a.invariant.0.next there)
     ∙ ap (λ (k : ℕ). long_of (take k (drop c.loop-a.a s))) (sym long)
     ∙ sym c.long_value.ensures in
-    let told = ap long_told c.in-Number.is in
+    let told = ap long_told c.in-Some.is in
     let says = says_some (fields space s) c.loop-a.n _ (read ∙ told) in (
       reading-on c.loop-a.invariant.0 there c.end-e.ensures (ap number_in (sym told ∙ c.long_value.ensures)) refl,
       omega arith,

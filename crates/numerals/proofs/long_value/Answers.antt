@@ -8,6 +8,6 @@ pub returns-then-zero_first : goal.returns-then-zero_first
 unfolding long_of
 returns-then-zero_first c = rw (sym c.zero_first.ensures ∙ c.if-zero_first.true)
 
-pub returns : goal.returns
+pub returns-else-zero_first : goal.returns-else-zero_first
 unfolding long_of
-returns c = rw (sym c.zero_first.ensures ∙ c.if-zero_first.false) c.long_size.ensures
+returns-else-zero_first c = rw (sym c.zero_first.ensures ∙ c.if-zero_first.false) c.size.ensures
