@@ -9,12 +9,10 @@ pub fn end(s: &[u8], a: usize, separator: u8) -> usize
     requires { a ≤ length s.now }
     ensures { EndsAt separator s.now a result }
 {
-    let mut i = a;
-    while i < s.len() {
+    for i in a..s.len() {
         if s[i] == separator {
             return i;
         }
-        i += 1;
     }
-    i
+    s.len()
 }

@@ -7,9 +7,8 @@ ghost use Rattle.text.specs.Text.{bits32};
 ghost use Rattle.lines.specs.Lines.{max_line, value_of, begins, values_of, fit_in, all_fit};
 
 use numerals::{NO_PLAIN, plain_value};
-use text::BITS_32;
 
-const DASH: u8 = 45;
+const DASH: u8 = b'-';
 
 // The most bytes of a line, without its LF.
 pub const MAX_LINE: usize = 1023;
@@ -84,12 +83,11 @@ fn place(v: &mut [u64], n: usize, x: u64)
 fn value(f: &[u8]) -> u64
     ensures { result ≡ value_of f.now }
 {
-    if f.len() == 1 {
-        if f[0] == DASH {
-            return NOBODY;
-        }
+    if matches!(f, [DASH]) {
+        NOBODY
+    } else {
+        plain_value(f)
     }
-    plain_value(f)
 }
 
 // Whether there are as many numbers as widths, and each fits its own.
@@ -99,12 +97,10 @@ pub fn fit(widths: &[u64], values: &[u64]) -> bool
     if widths.len() != values.len() {
         return false;
     }
-    let mut i = 0;
-    while i < values.len() {
-        if widths[i] < values[i] {
+    for (i, x) in values.iter().enumerate() {
+        if widths[i] < *x {
             return false;
         }
-        i += 1;
     }
     true
 }
@@ -115,14 +111,11 @@ pub fn narrowed(values: &[u64], out: &mut [u32]) -> bool
     ensures value { result ≡ all_fit bits32 values.now }
     ensures out_after { result ≡ true → take (length values.now) out.new ≡ values.now }
 {
-    let mut i = 0;
-    while i < values.len() {
-        let x = values[i];
-        if BITS_32 < x {
+    for (i, x) in values.iter().enumerate() {
+        let Ok(narrow) = u32::try_from(*x) else {
             return false;
-        }
-        out[i] = x as u32;
-        i += 1;
+        };
+        out[i] = narrow;
     }
     true
 }

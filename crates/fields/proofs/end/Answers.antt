@@ -7,22 +7,10 @@ use Rattle.fields.specs.Fields.{field_length}
 use Rattle.fields.proofs.Fields.{at-separator, no-separator}
 use Rattle.fields.proofs.end.Goals as goal
 
-pub loop-i-init : goal.loop-i-init
-loop-i-init c = omega arith
-
-pub bounds-s-i : goal.bounds-s-i
-bounds-s-i c = omega arith
-
 pub returns-then-s-i : goal.returns-then-s-i
 returns-then-s-i c = let a = c.args in
     let here = at-separator a.separator a.s.now c.loop-i.i (omega arith) c.if-s-i.true in
     record { ends = omega arith; behind = omega arith; within = omega arith }
-
-pub overflow_add-i : goal.overflow_add-i
-overflow_add-i c = omega arith
-
-pub loop-i-smaller : goal.loop-i-smaller
-loop-i-smaller c = omega arith
 
 pub loop-i-preserved : goal.loop-i-preserved
 loop-i-preserved c = let a = c.args in

@@ -1,68 +1,28 @@
 -- `lines::narrowed` meets its contract. The loop's invariant: i are copied, and the others fit exactly if all do.
 -- Assumes nothing.
-use Prim.Native.Nat.{ℕ}
+use Prim.Native.Nat.{ℕ, ◌+◌}
 use native.Mathlib.Omega.{arith}
-use mathlib.Core.Path.{◌≡◌, refl, sym, ap, ◌∙◌}
-use lib.ListN.{length, get_or, take, length-set}
-use lib.Seq.{take_all}
+use mathlib.Core.Path.{◌≡◌, sym, ◌∙◌, subst}
+use lib.ListN.{take, set}
 use Rattle.text.specs.Text.{bits32}
 use Rattle.lines.proofs.Widths.{one-too-wide, one-fits, all-fit, one-copied}
 use Rattle.lines.proofs.narrowed.Goals as goal
 
-pub loop-i-init : goal.loop-i-init
-loop-i-init c = (omega arith, refl, refl, refl)
-
-pub offset_bounds-values-i : goal.offset_bounds-values-i
-offset_bounds-values-i c = omega arith
-
-pub bounds-values-i : goal.bounds-values-i
-bounds-values-i c = omega arith
-
-pub shape_of-out-then-x-gt-BITS_32 : goal.shape_of-out-then-x-gt-BITS_32
-shape_of-out-then-x-gt-BITS_32 c = omega arith
-
-pub returns-then-x-gt-BITS_32 : goal.returns-then-x-gt-BITS_32
-returns-then-x-gt-BITS_32 c =
-    let vs = c.args.values.now in record {
-      value = sym (one-too-wide bits32 vs c.loop-i.i (omega arith) c.if-x-gt-BITS_32.true) ∙ c.loop-i.invariant.2;
-      out_after = λ e. let z : ◌≡◌ {A = ℕ} 0 1 = cc in absurd (omega arith);
-    }
-
-pub overflow_cast-out : goal.overflow_cast-out
-overflow_cast-out c = omega arith
-
-pub offset_bounds-out-i : goal.offset_bounds-out-i
-offset_bounds-out-i c = omega arith
-
-pub bounds-out-i : goal.bounds-out-i
-bounds-out-i c = omega arith
-
-pub overflow_add-i : goal.overflow_add-i
-overflow_add-i c = omega arith
-
-pub loop-i-smaller : goal.loop-i-smaller
-loop-i-smaller c = omega arith
+pub returns-in_default-clause-value : goal.returns-in_default-clause-value
+returns-in_default-clause-value c =
+    let l = c.loop-i in
+    sym (one-too-wide bits32 c.args.values.now l.i (omega arith) (omega (arith, c.in_default.ensures))) ∙ l.invariant.0
 
 pub loop-i-preserved : goal.loop-i-preserved
 loop-i-preserved c =
+    let l = c.loop-i in
     let vs = c.args.values.now in
-    let i = c.loop-i.i in
-    let out = c.loop-i.out in (
-      omega arith,
-      length-set out i (get_or vs i 0) ∙ c.loop-i.invariant.1,
-      sym (one-fits bits32 vs i (omega arith) c.if-x-gt-BITS_32.false) ∙ c.loop-i.invariant.2,
-      one-copied vs out i (omega arith) (omega arith) c.loop-i.invariant.3,
+    let same = c.in-Ok.ensures.1 in (
+      sym (one-fits bits32 vs l.i (omega arith) (omega (arith, c.in-Ok.ensures))) ∙ l.invariant.0,
+      subst (λ (n : ℕ). take (l.i + 1) (set l.out l.i n) ≡ take (l.i + 1) vs) (sym same)
+          (one-copied vs l.out l.i (omega arith) (omega arith) l.invariant.1),
     )
 
-pub shape_of-out : goal.shape_of-out
-shape_of-out c = omega arith
-
-pub returns : goal.returns
-returns c =
-    let vs = c.args.values.now in
-    let i = c.loop-i.i in
-    let all : i ≡ length vs = omega arith in record {
-      value = sym (all-fit bits32 vs i (omega arith)) ∙ c.loop-i.invariant.2;
-      out_after =
-          λ e. ap (λ (n : ℕ). take n c.loop-i.out) (sym all) ∙ c.loop-i.invariant.3 ∙ take_all i vs (omega arith);
-    }
+pub returns-clause-value : goal.returns-clause-value
+returns-clause-value c =
+    let l = c.loop-i in sym (all-fit bits32 c.args.values.now l.i (omega arith)) ∙ l.invariant.0
