@@ -1,16 +1,19 @@
 -- One turn of the loops: what is left to search, to test or to close up from a place on. For any places.
 -- Assumes nothing.
-use Prim.Native.Nat.{ℕ, zero, suc, ◌+◌, ◌≤◌, ◌<◌}
+use Prim.Native.Nat.{ℕ, zero, suc, ◌+◌, ◌-◌, ◌≤◌, ◌<◌}
 use mathlib.Core.Path.{◌≡◌, refl, sym, ap, ◌∙◌}
 use mathlib.Core.Bool.{true, false, or-true}
-use mathlib.Core.List.{List, [], ◌∷◌}
+use mathlib.Core.List.{List, [], ◌∷◌, ◌++◌}
 use native.Mathlib.Nat.{add-zero, add-suc, suc-add, not-suc-le-zero, le_of_suc-le-suc}
 use native.Mathlib.Numerals.{add-one}
 use native.Mathlib.Omega.{arith}
 use borrow.Author.Tests.{eq-eqb, ne_eqb}
 use lib.Dec.{eqb}
-use lib.ListN.{length, get_or, drop, set, drop_of_length-le}
+use lib.ListN.{length, get_or, take, drop, set, drop_of_length-le}
 use lib.Seq.{drop-cons}
+use Rattle.std.proofs.Common.{length-drop, length-append, append_assoc}
+use Rattle.std.proofs.lemmas.List.{drop_all, take_all, set_at, length-take-le}
+use Rattle.std.specs.List.{copy_within}
 use Rattle.rules.specs.Limits.{unused_place}
 use Rattle.places.specs.Places.{holds_only, place_of, place_for, close_up_of}
 
@@ -20,10 +23,10 @@ module _ (x : ℕ) (q : List ℕ) (i : ℕ) where
   unfolding place_of
   place_here h e = rw (drop-cons q i 0, eq-eqb (get_or q i 0) x e) (add-zero i)
 
-  pub place-next :
+  pub place_next :
       i < length q → (get_or q i 0 ≡ x → ⊥) → i + place_of x (drop i q) ≡ i + 1 + place_of x (drop (i + 1) q)
   unfolding place_of
-  place-next h e = rw (add-one i, drop-cons q i 0, ne_eqb (get_or q i 0) x e) (add-suc i _ ∙ sym (suc-add i _))
+  place_next h e = rw (add-one i, drop-cons q i 0, ne_eqb (get_or q i 0) x e) (add-suc i _ ∙ sym (suc-add i _))
 
   pub place_end : length q ≤ i → i + place_of x (drop i q) ≡ i
   unfolding place_of
@@ -31,26 +34,26 @@ module _ (x : ℕ) (q : List ℕ) (i : ℕ) where
 
 -- the search for where x stands or would join, from place i on: it is here, here is unused, further on, or nowhere
 module _ (x : ℕ) (q : List ℕ) (i : ℕ) where
-  pub for-here : i < length q → get_or q i 0 ≡ x → i + place_for x (drop i q) ≡ i
+  pub for_here : i < length q → get_or q i 0 ≡ x → i + place_for x (drop i q) ≡ i
   unfolding place_for
-  for-here h e = rw (drop-cons q i 0, eq-eqb (get_or q i 0) x e) (add-zero i)
+  for_here h e = rw (drop-cons q i 0, eq-eqb (get_or q i 0) x e) (add-zero i)
 
-  pub for-unused : i < length q → get_or q i 0 ≡ unused_place → i + place_for x (drop i q) ≡ i
+  pub for_unused : i < length q → get_or q i 0 ≡ unused_place → i + place_for x (drop i q) ≡ i
   unfolding place_for
-  for-unused h e =
+  for_unused h e =
       rw (drop-cons q i 0, eq-eqb (get_or q i 0) unused_place e, or-true (eqb (get_or q i 0) x)) (add-zero i)
 
-  pub for-next :
+  pub for_next :
       i < length q → (get_or q i 0 ≡ x → ⊥) → (get_or q i 0 ≡ unused_place → ⊥)
       → i + place_for x (drop i q) ≡ i + 1 + place_for x (drop (i + 1) q)
   unfolding place_for
-  for-next h d e =
+  for_next h d e =
       rw (add-one i, drop-cons q i 0, ne_eqb (get_or q i 0) x d, ne_eqb (get_or q i 0) unused_place e)
       (add-suc i _ ∙ sym (suc-add i _))
 
-  pub for-end : length q ≤ i → i + place_for x (drop i q) ≡ i
+  pub for_end : length q ≤ i → i + place_for x (drop i q) ≡ i
   unfolding place_for
-  for-end h = rw (drop_of_length-le q {i = i} h) (add-zero i)
+  for_end h = rw (drop_of_length-le q {i = i} h) (add-zero i)
 
 -- x everywhere from place i on: here and further on, not here, or nothing is left
 module _ (x : ℕ) (q : List ℕ) (i : ℕ) where
@@ -73,23 +76,29 @@ close-none [] at h = refl
 close-none (y ∷ q) zero h = absurd (not-suc-le-zero h)
 close-none (y ∷ q) (suc at) h = ap (λ l. y ∷ l) (close-none q at (le_of_suc-le-suc h))
 
--- the next place moved up: it is the one to close up now
-moved : (q : List ℕ) (i : ℕ) → suc i < length q → close_up_of (suc i) (set q i (get_or q (suc i) 0)) ≡ close_up_of i q
+-- the places before and behind, and an unused one
+closed : (q : List ℕ) (at : ℕ) → at < length q
+    → close_up_of at q ≡ take at q ++ (drop (suc at) q ++ (unused_place ∷ []))
 unfolding close_up_of
-moved [] i h = absurd (not-suc-le-zero h)
-moved (y ∷ []) i h = absurd (not-suc-le-zero (le_of_suc-le-suc h))
-moved (y ∷ z ∷ q) zero h = refl
-moved (y ∷ z ∷ q) (suc i) h = ap (λ l. y ∷ l) (moved (z ∷ q) i (le_of_suc-le-suc h))
+closed [] at h = absurd (not-suc-le-zero h)
+closed (y ∷ q) zero h = refl
+closed (y ∷ q) (suc at) h = ap (λ l. y ∷ l) (closed q at (le_of_suc-le-suc h))
 
-pub close-next :
-    (q : List ℕ) (i : ℕ) → i + 1 < length q → close_up_of (i + 1) (set q i (get_or q (i + 1) 0)) ≡ close_up_of i q
-close-next q i h = rw (add-one i) (moved q i (omega arith))
-
--- the last place: it becomes unused
-pub close-last : (q : List ℕ) (i : ℕ) → suc i ≡ length q → set q i unused_place ≡ close_up_of i q
-unfolding close_up_of
-close-last [] i e = refl
-close-last (y ∷ []) zero e = refl
-close-last (y ∷ z ∷ q) zero e = absurd (omega arith)
-close-last (y ∷ []) (suc i) e = refl
-close-last (y ∷ z ∷ q) (suc i) e = ap (λ l. y ∷ l) (close-last (z ∷ q) i (omega arith))
+-- what stands behind a place is copied onto it, and the last place becomes unused
+pub close-copied : (q : List ℕ) (at : ℕ) → at < length q
+    → set (copy_within q (at + 1) (length q) at) (length q - 1) unused_place ≡ close_up_of at q
+close-copied q at h =
+    let n = length q in
+    let i : at + 1 ≡ suc at = omega arith in
+    let b : take (n - suc at) (drop (suc at) q) ≡ drop (suc at) q =
+    take_all (n - suc at) (drop (suc at) q) (omega (arith, length-drop (suc at) q)) in
+    let e : at + (n - suc at) ≡ n - 1 = omega arith in
+    let w : suc (n - 1) ≡ n = omega arith in
+    let z : drop (n - 1) q ≡ get_or q (n - 1) 0 ∷ [] =
+    drop-cons q (n - 1) 0 (omega arith) ∙ rw w (ap (λ l. get_or q (n - 1) 0 ∷ l) (drop_all n q (omega arith))) in
+    let m : length (take at q ++ drop (suc at) q) ≡ n - 1 =
+    omega (arith, length-append (take at q) (drop (suc at) q), length-take-le at q (omega arith), length-drop (suc at) q) in
+    rw (i, b, e, z)
+    (set_at (take at q ++ drop (suc at) q) (get_or q (n - 1) 0) [] unused_place (n - 1) m
+    ∙ append_assoc (take at q) (drop (suc at) q) (unused_place ∷ [])
+    ∙ sym (closed q at h))

@@ -18,35 +18,29 @@ pub fn wide(x: u8) -> usize
 }
 
 // The first place that holds x, or the number of places if none does. Of 255: the first unused place.
+#[tactic(auto, using(crate::proofs::Turns::place_here, crate::proofs::Turns::place_next, crate::proofs::Turns::place_end))]
 pub fn find(q: &[u8], x: u8) -> usize
     ensures { result ≡ place_of x q.now }
 {
-    let mut i = 0;
-    while i < q.len() {
-        if q[i] == x {
+    for (i, y) in q.iter().enumerate() {
+        if *y == x {
             return i;
         }
-        i += 1;
     }
-    i
+    q.len()
 }
 
 // The first place that holds x or is unused, or the number of places if there is none: where x stands, or would join.
+#[tactic(auto, using(crate::proofs::Turns::for_here, crate::proofs::Turns::for_unused, crate::proofs::Turns::for_next, crate::proofs::Turns::for_end))]
 pub fn place_for(q: &[u8], x: u8) -> usize
     ensures { result ≡ place_for x q.now }
 {
-    let mut i = 0;
-    while i < q.len() {
-        let y = q[i];
-        if y == x {
+    for (i, y) in q.iter().enumerate() {
+        if *y == x || *y == UNUSED {
             return i;
         }
-        if y == UNUSED {
-            return i;
-        }
-        i += 1;
     }
-    i
+    q.len()
 }
 
 // Whether x is in the queue: at a place before the first unused one.
@@ -54,10 +48,7 @@ pub fn stands(q: &[u8], x: u8) -> bool
     ensures { result ≡ has x (unpad q.now) }
 {
     let at = place_for(q, x);
-    if q.len() <= at {
-        return false;
-    }
-    q[at] != UNUSED
+    at < q.len() && q[at] != UNUSED
 }
 
 // How many places are used: those before the first unused one.
@@ -94,12 +85,9 @@ pub fn close_up(q: &mut [u8], at: usize)
     if q.len() <= at {
         return;
     }
-    let mut i = at;
-    while i + 1 < q.len() {
-        q[i] = q[i + 1];
-        i += 1;
-    }
-    q[i] = UNUSED;
+    let last = q.len() - 1;
+    q.copy_within(at + 1.., at);
+    q[last] = UNUSED;
 }
 
 // x leaves the queue, if it is there, and the others keep their order.
@@ -111,15 +99,14 @@ pub fn take_out(q: &mut [u8], x: u8)
 }
 
 // Nothing but x from a place on.
+#[tactic(auto, using(crate::proofs::Turns::same_turn, crate::proofs::Turns::same_stop, crate::proofs::Turns::same_end))]
 pub fn holds_only_from(q: &[u8], from: usize, x: u8) -> bool
     ensures { result ≡ holds_only x (drop from q.now) }
 {
-    let mut i = from;
-    while i < q.len() {
+    for i in from..q.len() {
         if q[i] != x {
             return false;
         }
-        i += 1;
     }
     true
 }
