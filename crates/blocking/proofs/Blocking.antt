@@ -1,11 +1,10 @@
 -- Of a queued context, timestamps and sets tell what the rules do: who prevents it from being committed, who blocks it
 -- directly, and whether it is committed. Assumes nothing.
 use Prim.Native.Nat.{ℕ, ◌<◌}
-use mathlib.Core.Path.{◌≡◌, sym, ap, ◌∙◌}
+use mathlib.Core.Path.{◌≡◌, sym, ◌∙◌}
 use mathlib.Core.Bool.{true, false, and-false}
 use mathlib.Core.List.{List}
-use native.Mathlib.Omega.{arith}
-use lib.Dec.{eqb, ltb}
+use lib.Dec.{ltb}
 use lib.ListN.{get_or}
 use Rattle.rules.proofs.Tests.{by-test}
 use Rattle.rules.proofs.Highest.{highest-same}
@@ -13,9 +12,9 @@ use Rattle.group_rules.specs.declared.Group.{Group}
 use Rattle.group_rules.specs.Limits.{max_contexts}
 use Rattle.group_rules.specs.Groups.{time_of, tickets_of, queued}
 use Rattle.group_rules.specs.Blocking.{share, blocks, committed, blocker_of}
-use Rattle.blocking.specs.Queue.{SetsOf, ticket_set, number_of, blocks_in, blocker_in}
+use Rattle.blocking.specs.Queue.{SetsOf, ticket_set, is_nobody, blocks_in, blocker_in}
 use Rattle.blocking.proofs.Tickets.{common-tickets, common-none}
-use Rattle.blocking.proofs.Numbers.{later_by, number-none}
+use Rattle.blocking.proofs.Found.{later_by, highest-none}
 
 module _ (g : Group) (sets : List ℕ) (is : SetsOf g.tickets g.stacks sets) where
   -- the set of a context that is queued, and of one that isn't
@@ -33,13 +32,10 @@ module _ (g : Group) (sets : List ℕ) (is : SetsOf g.tickets g.stacks sets) whe
         (λ q. rw (set-queued b l q, set-queued c low waits, q, common-tickets (tickets_of g b) (tickets_of g c)))
         (λ q. rw (set-not b l q, q, common-none (get_or sets c 0)) (and-false (ltb (time_of g b) (time_of g c))))
 
-    pub blocker-in : blocker_in g.times sets c ≡ number_of (blocker_of g c)
+    pub blocker-in : blocker_in g.times sets c ≡ blocker_of g c
     unfolding blocker_in blocker_of
-    blocker-in =
-        ap number_of
-        (highest-same (later_by g.times) (blocks_in g.times sets c) (blocks g c) max_contexts blocks-in)
+    blocker-in = highest-same (later_by g.times) (blocks_in g.times sets c) (blocks g c) max_contexts blocks-in
 
-    pub committed-in : committed g c ≡ eqb (blocker_in g.times sets c) max_contexts
+    pub committed-in : committed g c ≡ is_nobody (blocker_in g.times sets c)
     unfolding committed blocker_of
-    committed-in =
-        rw (blocker-in, waits) (sym (number-none (later_by g.times) (blocks g c) max_contexts (omega arith)))
+    committed-in = rw (blocker-in, waits) (sym (highest-none (later_by g.times) (blocks g c) max_contexts))

@@ -5,13 +5,14 @@ use mathlib.Core.Path.{◌≡◌, refl}
 use mathlib.Core.Bool.{true, false}
 use mathlib.Core.List.{List, [], ◌∷◌, ◌++◌}
 use mathlib.Core.Option.{some, none}
+use Rattle.std.specs.Prelude.{Some, None}
 use lib.ListN.{replicate}
 use Rattle.sets.specs.Sets.{member, set_of}
 use Rattle.places.specs.Places.{unpad}
-use Rattle.group_rules.specs.Blocking.{nobody, server, context}
+use Rattle.group_rules.specs.Blocking.{nobody, server, context, to_blocker}
 use Rattle.blocking.specs.declared.Delegate.TheVariants as case
-use Rattle.blocking.specs.Queue.{with_ticket, ticket_set, queued_set, number_of, blocks_in, later_of, blocker_in}
-use Rattle.blocking.specs.Delegates.{told_of, context_in, delegate_in}
+use Rattle.blocking.specs.Queue.{with_ticket, ticket_set, queued_set, found_in, is_nobody, blocks_in, later_of, blocker_in}
+use Rattle.blocking.specs.Delegates.{told_of, delegate_in}
 
 -- SETS OF SERVERS
 
@@ -59,22 +60,26 @@ blocks-apart = (refl, refl)
 
 -- the first that is found; the later of two, in either order; of two with the same timestamp the one found before
 later-of :
-    (later_of times 8 3 ≡ 3) × (later_of times 0 5 ≡ 5) × (later_of times 5 0 ≡ 5) × (later_of times 1 2 ≡ 1)
+    (later_of times none 3 ≡ 3) × (later_of times (some 0) 5 ≡ 5) × (later_of times (some 5) 0 ≡ 5)
+    × (later_of times (some 1) 2 ≡ 1)
 later-of = (refl, refl, refl, refl)
 
-number-of : (number_of none ≡ 8) × (number_of (some 0) ≡ 0) × (number_of (some 7) ≡ 7)
-number-of = (refl, refl, refl)
+found-in : (found_in None ≡ none) × (found_in (Some 0) ≡ some 0) × (found_in (Some 7) ≡ some 7)
+found-in = (refl, refl, refl)
+
+is-nobody : (is_nobody none ≡ true) × (is_nobody (some 0) ≡ false) × (is_nobody (some 7) ≡ false)
+is-nobody = (refl, refl, refl)
 
 -- of 0 and 5 the later blocks 1, and of 0 and 3 the later blocks 5; nobody blocks 0, nor 4, which isn't queued
 blocker-some :
-    (blocker_in times sets 1 ≡ 5) × (blocker_in times sets 5 ≡ 0) × (blocker_in times sets 0 ≡ 8)
-    × (blocker_in times sets 4 ≡ 8)
+    (blocker_in times sets 1 ≡ some 5) × (blocker_in times sets 5 ≡ some 0) × (blocker_in times sets 0 ≡ none)
+    × (blocker_in times sets 4 ≡ none)
 unfolding member set_of blocker_in
 blocker-some = (refl, refl, refl, refl)
 
 -- DELEGATES
 
-context-some : (context_in 8 ≡ nobody) × (context_in 0 ≡ context 0) × (context_in 7 ≡ context 7)
+context-some : (to_blocker none ≡ nobody) × (to_blocker (some 0) ≡ context 0) × (to_blocker (some 7) ≡ context 7)
 context-some = (refl, refl, refl)
 
 -- a committed one to the server on top of its stack, one that is blocked to who blocks it, one that isn't queued to

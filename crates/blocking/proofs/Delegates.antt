@@ -1,14 +1,16 @@
 -- To whom a context delegates: the answers by timestamps, sets and its stack, and that they are what the rules say.
 -- Assumes nothing.
 use Prim.Native.Nat.{ℕ, zero, suc, ◌-◌, ◌<◌}
-use mathlib.Core.Path.{◌≡◌, refl, ap, ◌∙◌}
+use mathlib.Core.Path.{◌≡◌, refl}
 use mathlib.Core.Bool.{true}
 use mathlib.Core.List.{List, [], ◌∷◌}
-use mathlib.Core.Option.{Option, some, none}
+use mathlib.Core.Option.{none}
+use Rattle.std.specs.Prelude as code
+use Rattle.std.specs.Prelude.{Some, None}
 use native.Mathlib.Omega.{arith}
 use lib.Dec.{eqb}
 use lib.ListN.{length, get_or}
-use borrow.Author.Tests.{eq-eqb, ne_eqb, ltb-true}
+use borrow.Author.Tests.{ltb-true}
 use Rattle.rules.specs.Limits.{unused_place}
 use Rattle.rules.proofs.Tests.{by-test}
 use Rattle.places.specs.Places.{unpad, used_of}
@@ -16,10 +18,9 @@ use Rattle.places.proofs.Queues.{used-unpad}
 use Rattle.group_rules.specs.declared.Group.{Group}
 use Rattle.group_rules.specs.Limits.{max_contexts}
 use Rattle.group_rules.specs.Groups.{places_of, has_call, queued}
-use Rattle.group_rules.specs.Blocking.{server, last_of, blocks, to_blocker, blocker_of, delegate_of}
-use Rattle.blocking.specs.Queue.{SetsOf, number_of, blocker_in}
-use Rattle.blocking.specs.Delegates.{context_in, delegate_in}
-use Rattle.blocking.proofs.Numbers.{Low, later_by, highest-low}
+use Rattle.group_rules.specs.Blocking.{server, last_of, to_blocker, delegate_of}
+use Rattle.blocking.specs.Queue.{SetsOf, found_in, blocker_in}
+use Rattle.blocking.specs.Delegates.{delegate_in}
 use Rattle.blocking.proofs.Blocking.{blocker-in, committed-in}
 
 -- THE ANSWERS
@@ -43,34 +44,24 @@ pub last-used : (q : List ℕ) → has_call q ≡ true → last_of (unpad q) ≡
 last-used q h =
     rw (used-unpad q) (unpad-at q (length (unpad q) - 1) 0 (omega (arith, ltb-true 0 (length (unpad q)) h)))
 
-module _ (times sets places : List ℕ) (c b : ℕ) (waits : has_call places ≡ true)
-    (is : b ≡ blocker_in times sets c) where
-  pub delegate-blocked : b < max_contexts → delegate_in times sets places c ≡ context_in b
+module _ (times sets places : List ℕ) (c : ℕ) (waits : has_call places ≡ true) where
+  pub delegate-blocked : (o : code.Option ℕ) → ¬ (o ≡ None) → found_in o ≡ blocker_in times sets c
+      → to_blocker (found_in o) ≡ delegate_in times sets places c
   unfolding delegate_in
-  delegate-blocked h = rw (waits, ← is, ne_eqb b max_contexts (λ e. omega arith))
+  delegate-blocked None h e = absurd (h refl)
+  delegate-blocked (Some b) h e = rw (waits, ← e)
 
-  pub delegate-serves : b ≡ max_contexts → delegate_in times sets places c ≡ server (last_of (unpad places))
+  pub delegate-serves : none ≡ blocker_in times sets c
+      → server (last_of (unpad places)) ≡ delegate_in times sets places c
   unfolding delegate_in
-  delegate-serves e = rw (waits, ← is, eq-eqb b max_contexts e)
+  delegate-serves e = rw (waits, ← e)
 
 -- THE RULES
 
-context-low : (o : Option ℕ) → Low max_contexts o → context_in (number_of o) ≡ to_blocker o
-context-low none h = refl
-context-low (some d) h = rw (ne_eqb d max_contexts (λ e. omega arith))
-
 module _ (g : Group) (sets : List ℕ) (is : SetsOf g.tickets g.stacks sets) (c : ℕ) (low : c < max_contexts) where
-  pub context-in : queued g c ≡ true → context_in (blocker_in g.times sets c) ≡ to_blocker (blocker_of g c)
-  unfolding blocker_of
-  context-in q =
-      ap context_in (blocker-in g sets is c low q)
-      ∙ context-low (blocker_of g c) (highest-low (later_by g.times) (blocks g c) max_contexts)
-
   pub delegate-in : delegate_in g.times sets (places_of g c) c ≡ delegate_of g c
   unfolding delegate_in delegate_of
   delegate-in =
       by-test (queued g c)
-      (λ q. rw (q, committed-in g sets is c low q) (by-test (eqb (blocker_in g.times sets c) max_contexts)
-      (λ e. rw e)
-      (λ e. rw (← context-in q, e))))
+      (λ q. rw (q, committed-in g sets is c low q, ← blocker-in g sets is c low q))
       (λ q. rw q)

@@ -1,7 +1,9 @@
 -- The servers that contexts have tickets for, as sets; and who blocks whom by timestamps and these sets.
 -- Assumes nothing.
-use Rattle.std.specs.Prelude.{ℕ, ◌<◌, ◌≡◌, Bool, not, ◌&&◌, cond, List, eqb, ltb, get_or}
+use Rattle.std.specs.Prelude.{ℕ, ◌<◌, ◌≡◌, Bool, true, false, not, ◌&&◌, cond, List, eqb, ltb, get_or}
 use Rattle.std.proofs.Math.Option.{Option, some, none}
+use Rattle.std.specs.Prelude as code
+use Rattle.std.specs.Prelude.{Some, None}
 use Rattle.rules.specs.Lists.{highest}
 use Rattle.sets.specs.Sets.{set_of, with_of, common_of}
 use Rattle.group_rules.specs.declared.Tickets.{Tickets}
@@ -37,17 +39,22 @@ module _ (times sets : List ℕ) where
   blocks_in c b =
       ltb (get_or times b 0) (get_or times c 0) && not (eqb (common_of (get_or sets b 0) (get_or sets c 0)) 0)
 
--- a context's number, 8 for nobody
-abbrev pub number_of : Option ℕ → ℕ
-number_of none = max_contexts
-number_of (some b) = b
+-- the context that the code has found, if there is one
+abbrev pub found_in : code.Option ℕ → Option ℕ
+found_in None = none
+found_in (Some b) = some b
+
+-- nobody is found
+abbrev pub is_nobody : Option ℕ → Bool
+is_nobody none = true
+is_nobody (some b) = false
 
 -- of b and the one found before it, if there is one, the later
-abbrev pub later_of : List ℕ → ℕ → ℕ → ℕ
-later_of times found b =
-    cond (eqb found max_contexts) b (cond (ltb (get_or times found 0) (get_or times b 0)) b found)
+abbrev pub later_of : List ℕ → Option ℕ → ℕ → ℕ
+later_of times none b = b
+later_of times (some a) b = cond (ltb (get_or times a 0) (get_or times b 0)) b a
 
 -- the latest of those that prevent c from being committed
-unfoldable pub blocker_in : List ℕ → List ℕ → ℕ → ℕ
+unfoldable pub blocker_in : List ℕ → List ℕ → ℕ → Option ℕ
 blocker_in times sets c =
-    number_of (highest (λ (a b : ℕ). ltb (get_or times b 0) (get_or times a 0)) (blocks_in times sets c) max_contexts)
+    highest (λ (a b : ℕ). ltb (get_or times b 0) (get_or times a 0)) (blocks_in times sets c) max_contexts

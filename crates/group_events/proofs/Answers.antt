@@ -14,11 +14,11 @@ use Rattle.rules.proofs.Tests.{by-test}
 use Rattle.group_rules.specs.declared.Group.{Group}
 use Rattle.group_rules.specs.Limits.{max_contexts, max_servers, max_depth}
 use Rattle.group_rules.specs.Refusals.{no_such, queued_already, many_tickets, no_first_ticket, not_later}
-use Rattle.group_rules.specs.Refusals.{not_queued, not_committed, no_ticket, on_stack, stack_full}
+use Rattle.group_rules.specs.Refusals.{no_ticket, on_stack, stack_full}
 use Rattle.group_rules.specs.Groups.{tickets_for, calls_of, queued}
 use Rattle.group_rules.specs.Blocking.{committed}
 use Rattle.group_rules.specs.Sound.{few_tickets}
-use Rattle.group_rules.specs.Events.{entry_answer, call_answer, reply_answer}
+use Rattle.group_rules.specs.Events.{entry_answer, serves, call_answer, reply_answer}
 
 module _ (g : Group) where
   -- ENTRY
@@ -89,15 +89,11 @@ module _ (g : Group) where
       call-no-server h = rw (lt-ltb c max_contexts low, le-ltb s max_servers h)
 
       module _ (server : s < max_servers) where
-        pub call-out : queued g c ≡ false → call_answer g c s ≡ not_queued
+        pub call-unserved : (n : ℕ) → ((rest : ℕ) → serves g c rest ≡ n) → call_answer g c s ≡ n
         unfolding call_answer
-        call-out q = rw (lt-ltb c max_contexts low, lt-ltb s max_servers server, q)
+        call-unserved n h = rw (lt-ltb c max_contexts low, lt-ltb s max_servers server) (h _)
 
         module _ (q : queued g c ≡ true) where
-          pub call-blocked : committed g c ≡ false → call_answer g c s ≡ not_committed
-          unfolding call_answer
-          call-blocked k = rw (lt-ltb c max_contexts low, lt-ltb s max_servers server, q, k)
-
           module _ (k : committed g c ≡ true) where
             pub call-no-ticket : tickets_for g c s ≡ 0 → call_answer g c s ≡ no_ticket
             unfolding call_answer
@@ -156,15 +152,11 @@ module _ (g : Group) where
     reply-no-context h = rw (le-ltb c max_contexts h)
 
     module _ (low : c < max_contexts) where
-      pub reply-out : queued g c ≡ false → reply_answer g c ≡ not_queued
+      pub reply-unserved : (n : ℕ) → ((rest : ℕ) → serves g c rest ≡ n) → reply_answer g c ≡ n
       unfolding reply_answer
-      reply-out q = rw (lt-ltb c max_contexts low, q)
+      reply-unserved n h = rw (lt-ltb c max_contexts low) (h _)
 
       module _ (q : queued g c ≡ true) where
-        pub reply-blocked : committed g c ≡ false → reply_answer g c ≡ not_committed
-        unfolding reply_answer
-        reply-blocked k = rw (lt-ltb c max_contexts low, q, k)
-
         pub reply-taken : committed g c ≡ true → reply_answer g c ≡ accepted
         unfolding reply_answer
         reply-taken k = rw (lt-ltb c max_contexts low, q, k)

@@ -2,6 +2,7 @@
 -- Assumes nothing.
 use mathlib.Core.Path.{◌≡◌, refl}
 use mathlib.Core.List.{[], ◌∷◌, map}
+use Rattle.std.specs.Prelude.{Ok, Err}
 use Rattle.places.specs.Places.{pad, unpad}
 use Rattle.places.specs.Tests.{every}
 use Rattle.group_rules.specs.declared.Group.{Group}
@@ -10,13 +11,14 @@ use Rattle.group_rules.specs.Blocking.{share, committed}
 use Rattle.group_rules.specs.Sound.{few_tickets}
 use Rattle.group_rules.specs.Events.{entry, call, filled, entry_answer, call_answer, entered, called}
 use Rattle.group_rules.proofs.Cases.{for}
-use Rattle.group_events.specs.declared.Answer.TheVariants as case
-use Rattle.group_events.specs.Answers.{number_of, told_in, ruled}
+use Rattle.group_events.specs.declared.Refusal.TheVariants as case
+use Rattle.group_events.specs.Answers.{number_of, told_in, after_in, ruled}
 
 numbers :
-    map number_of (
-    case.Accepted ∷ case.Unsound ∷ case.NoSuch ∷ case.QueuedAlready ∷ case.ManyTickets ∷ case.NoFirstTicket
-    ∷ case.NotLater ∷ case.NotQueued ∷ case.NotCommitted ∷ case.NoTicket ∷ case.OnStack ∷ case.StackFull ∷ []
+    map (number_of {T = Unit {0}}) (
+    Ok tt ∷ Err case.Unsound ∷ Err case.NoSuch ∷ Err case.QueuedAlready ∷ Err case.ManyTickets
+    ∷ Err case.NoFirstTicket ∷ Err case.NotLater ∷ Err case.NotQueued ∷ Err case.NotCommitted ∷ Err case.NoTicket
+    ∷ Err case.OnStack ∷ Err case.StackFull ∷ []
     )
     ≡ 0 ∷ 19 ∷ 40 ∷ 41 ∷ 42 ∷ 43 ∷ 44 ∷ 45 ∷ 46 ∷ 47 ∷ 48 ∷ 49 ∷ []
 numbers = refl
@@ -25,8 +27,14 @@ abbrev one : Group
 one = entered none_entered 0 5 0 (for (0 ∷ 1 ∷ []))
 
 -- the answer's number and the group
-told : told_in (record { answer = case.NotLater; group = none_entered }) ≡ record { number = 44; group = none_entered }
+told :
+    told_in (record { answer = Err case.NotLater; group = none_entered }) ≡ record { number = 44; group = none_entered }
 told = refl
+
+after-some :
+    (after_in one (Err case.NotLater) ≡ record { number = 44; group = one })
+    × (after_in one (Ok none_entered) ≡ record { number = 0; group = none_entered })
+after-some = (refl, refl)
 
 -- an accepted event leaves what the rules say
 accepted-entry : ruled none_entered (entry 0 5 0 (for (0 ∷ 1 ∷ []))) ≡ record { number = 0; group = one }

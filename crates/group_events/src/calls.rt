@@ -3,10 +3,9 @@ ghost use Rattle.std.specs.Prelude.{◌≡◌, ◌<◌};
 ghost use Rattle.places.specs.Places.{append_of};
 ghost use Rattle.group_rules.specs.Limits.{max_contexts};
 ghost use Rattle.group_rules.specs.Events as rules;
-ghost use Rattle.group_events.specs.Answers.{told_in, ruled};
+ghost use Rattle.group_events.specs.Answers.{after_in, ruled};
 
-use crate::{Answer, Answered, accepted, is_committed, refused, stack_of, tickets_of};
-use blocking::is_queued;
+use crate::{Refusal, context, server, serves, stack_of, tickets_of};
 use group_rules::{Context, Group, Server, Stack};
 
 // A stack with one more call on it.
@@ -28,35 +27,22 @@ fn called(g: Group, c: usize, s: Server) -> Group
     after
 }
 
-pub fn call(g: Group, c: Context, s: Server) -> Answered
-    ensures { told_in result ≡ ruled g (rules.call c.0 s.0) }
+pub fn call(g: Group, c: Context, s: Server) -> Result<Group, Refusal>
+    ensures { after_in g result ≡ ruled g (rules.call c.0 s.0) }
 {
-    let i = places::wide(c.0);
-    if i >= Group::MAX_CONTEXTS {
-        return refused(Answer::NoSuch, g);
-    }
-    let j = places::wide(s.0);
-    if j >= Group::MAX_SERVERS {
-        return refused(Answer::NoSuch, g);
+    let i = context(c)?;
+    let j = server(s)?;
+    serves(g, i)?;
+    let own = tickets_of(g, i);
+    if own.counts[j] == 0 {
+        return Err(Refusal::NoTicket);
     }
     let stack = stack_of(g, i);
-    if !is_queued(stack) {
-        return refused(Answer::NotQueued, g);
+    if places::stands(&stack.places, s.0) {
+        return Err(Refusal::OnStack);
     }
-    if !is_committed(g, i) {
-        return refused(Answer::NotCommitted, g);
+    if places::used(&stack.places) >= Group::MAX_DEPTH {
+        return Err(Refusal::StackFull);
     }
-    let own = tickets_of(g, i);
-    let counts = own.counts;
-    if counts[j] == 0 {
-        return refused(Answer::NoTicket, g);
-    }
-    let q = stack.places;
-    if places::stands(&q, s.0) {
-        return refused(Answer::OnStack, g);
-    }
-    if places::used(&q) >= Group::MAX_DEPTH {
-        return refused(Answer::StackFull, g);
-    }
-    accepted(called(g, i, s))
+    Ok(called(g, i, s))
 }

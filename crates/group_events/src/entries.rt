@@ -3,9 +3,9 @@ ghost use Rattle.std.specs.Prelude.{◌≡◌, not, ◌&&◌, [], ◌∷◌, ◌
 ghost use Rattle.group_rules.specs.Limits.{max_contexts};
 ghost use Rattle.group_rules.specs.Groups.{stack_with};
 ghost use Rattle.group_rules.specs.Events as rules;
-ghost use Rattle.group_events.specs.Answers.{told_in, ruled};
+ghost use Rattle.group_events.specs.Answers.{after_in, ruled};
 
-use crate::{Answer, Answered, accepted, refused, stack_of};
+use crate::{Refusal, context, server, stack_of};
 use blocking::is_queued;
 use group_rules::{Context, Group, Server, Stack, Tickets};
 
@@ -36,35 +36,31 @@ fn entered(g: Group, c: usize, time: u64, first: Server, tickets: Tickets) -> Gr
 fn is_later(entered: bool, last: u64, time: u64) -> bool
     ensures { result ≡ not (entered && leb time last) }
 {
-    if !entered {
-        return true;
-    }
-    last < time
+    !entered || last < time
 }
 
-pub fn entry(g: Group, c: Context, time: u64, first: Server, tickets: Tickets) -> Answered
-    ensures { told_in result ≡ ruled g (rules.entry c.0 time first.0 tickets.counts) }
+pub fn entry(
+    g: Group,
+    c: Context,
+    time: u64,
+    first: Server,
+    tickets: Tickets,
+) -> Result<Group, Refusal>
+    ensures { after_in g result ≡ ruled g (rules.entry c.0 time first.0 tickets.counts) }
 {
-    let i = places::wide(c.0);
-    if i >= Group::MAX_CONTEXTS {
-        return refused(Answer::NoSuch, g);
-    }
-    let s = places::wide(first.0);
-    if s >= Group::MAX_SERVERS {
-        return refused(Answer::NoSuch, g);
-    }
+    let i = context(c)?;
+    let s = server(first)?;
     if is_queued(stack_of(g, i)) {
-        return refused(Answer::QueuedAlready, g);
+        return Err(Refusal::QueuedAlready);
     }
     if !group_sound::few_tickets(tickets) {
-        return refused(Answer::ManyTickets, g);
+        return Err(Refusal::ManyTickets);
     }
-    let counts = tickets.counts;
-    if counts[s] == 0 {
-        return refused(Answer::NoFirstTicket, g);
+    if tickets.counts[s] == 0 {
+        return Err(Refusal::NoFirstTicket);
     }
     if !is_later(g.entered, g.last, time) {
-        return refused(Answer::NotLater, g);
+        return Err(Refusal::NotLater);
     }
-    accepted(entered(g, i, time, first, tickets))
+    Ok(entered(g, i, time, first, tickets))
 }

@@ -6,10 +6,9 @@ ghost use Rattle.group_rules.specs.Groups.{tickets_for, calls_of};
 ghost use Rattle.group_rules.specs.Blocking.{current_of};
 ghost use Rattle.group_rules.specs.Sound.{sound_of};
 ghost use Rattle.group_rules.specs.Events as rules;
-ghost use Rattle.group_events.specs.Answers.{told_in, ruled};
+ghost use Rattle.group_events.specs.Answers.{after_in, ruled};
 
-use crate::{Answer, Answered, accepted, is_committed, refused, stack_of, tickets_of};
-use blocking::is_queued;
+use crate::{Refusal, context, serves, stack_of, tickets_of};
 use group_rules::{Context, Group, Stack, Tickets, no_calls, no_tickets};
 
 // A stack of n calls without the one on top.
@@ -27,8 +26,7 @@ fn top_of(s: Stack, n: usize) -> usize
     requires { (0 < n) × (n ≤ max_depth) }
     ensures { result ≡ get_or s.places (n - 1) 0 }
 {
-    let q = s.places;
-    places::wide(q[n - 1])
+    usize::from(s.places[n - 1])
 }
 
 // One ticket for a server is used up.
@@ -37,7 +35,7 @@ fn used_up(t: Tickets, s: usize) -> Tickets
     ensures { result ≡ record { counts = set t.counts s (get_or t.counts s 0 - 1) } }
 {
     let mut counts = t.counts;
-    counts[s] = counts[s] - 1;
+    counts[s] -= 1;
     Tickets { counts }
 }
 
@@ -66,25 +64,16 @@ fn gone(g: Group, c: usize) -> Group
     after
 }
 
-pub fn reply(g: Group, c: Context) -> Answered
+pub fn reply(g: Group, c: Context) -> Result<Group, Refusal>
     requires { sound_of g ≡ true }
-    ensures { told_in result ≡ ruled g (rules.reply c.0) }
+    ensures { after_in g result ≡ ruled g (rules.reply c.0) }
 {
-    let i = places::wide(c.0);
-    if i >= Group::MAX_CONTEXTS {
-        return refused(Answer::NoSuch, g);
-    }
+    let i = context(c)?;
+    serves(g, i)?;
     let stack = stack_of(g, i);
-    if !is_queued(stack) {
-        return refused(Answer::NotQueued, g);
-    }
-    if !is_committed(g, i) {
-        return refused(Answer::NotCommitted, g);
-    }
-    let q = stack.places;
-    let n = places::used(&q);
+    let n = places::used(&stack.places);
     if n == 1 {
-        return accepted(gone(g, i));
+        return Ok(gone(g, i));
     }
-    accepted(popped(g, i, n))
+    Ok(popped(g, i, n))
 }

@@ -1,17 +1,16 @@
 -- A stack: who is seen on it, and that its servers have tickets. Tickets: no more than 4 for each server.
 -- Assumes nothing.
-use Prim.Native.Nat.{ℕ, ◌+◌, ◌≤◌, ◌<◌}
-use mathlib.Core.Path.{◌≡◌, refl, fun_ext}
+use Prim.Native.Nat.{ℕ, zero, suc, ◌≤◌, ◌<◌}
+use Rattle.std.specs.Prelude.{◌↔◌, IsTrue, EachIndex, slice_index}
+use mathlib.Core.Path.{◌≡◌, refl, sym, ◌∙◌, fun_ext}
 use mathlib.Core.Bool.{Bool, true, false, ◌&&◌, ◌||◌}
-use mathlib.Core.List.{List}
+use mathlib.Core.List.{List, [], ◌∷◌}
 use mathlib.Core.Logic.{by_cases}
 use native.Mathlib.Decide.{dec_lt}
-use native.Mathlib.Numerals.{add-one}
 use native.Mathlib.Omega.{arith}
 use lib.Dec.{leb}
-use lib.ListN.{length, get_or, drop, drop_of_length-le, get_or-eq_default}
-use lib.Seq.{drop-cons}
-use borrow.Author.Tests.{le-leb, lt-leb}
+use lib.ListN.{length, get_or, get_or-eq_default}
+use borrow.Author.Tests.{le-leb, leb-true}
 use Rattle.rules.specs.Limits.{max_clients}
 use Rattle.rules.proofs.Tests.{by-test, both_true, clash}
 use Rattle.sets.specs.Sets.{member}
@@ -34,20 +33,25 @@ use Rattle.group_sound.specs.Answers.{is_some, stack_fits}
 
 -- TICKETS
 
--- few from server s on: here and further on, not here, or nothing is left
-module _ (counts : List ℕ) (s : ℕ) where
-  pub few-turn : s < length counts → get_or counts s 0 ≤ max_tickets
-      → few_tickets (drop s counts) ≡ few_tickets (drop (s + 1) counts)
-  unfolding few_tickets every
-  few-turn h b = rw (add-one, drop-cons counts s 0, le-leb (get_or counts s 0) max_tickets b)
+-- each count is at most 4
+few-some : (counts : List ℕ) → ((k : ℕ) → k < length counts → get_or counts k 0 ≤ max_tickets)
+    → few_tickets counts ≡ true
+unfolding few_tickets every
+few-some [] h = refl
+few-some (n ∷ counts) h =
+    rw (le-leb n max_tickets (h 0 (omega arith))) (few-some counts (λ k l. h (suc k) (omega arith)))
 
-  pub few-stop : s < length counts → max_tickets < get_or counts s 0 → few_tickets (drop s counts) ≡ false
-  unfolding few_tickets every
-  few-stop h b = rw (drop-cons counts s 0, lt-leb (get_or counts s 0) max_tickets b)
+some-few : (counts : List ℕ) → few_tickets counts ≡ true → (k : ℕ) → k < length counts
+    → get_or counts k 0 ≤ max_tickets
+unfolding few_tickets every
+some-few [] h k l = absurd (omega arith)
+some-few (n ∷ counts) h zero l = leb-true n max_tickets (both_true (leb n max_tickets) _ h).0
+some-few (n ∷ counts) h (suc k) l = some-few counts (both_true (leb n max_tickets) _ h).1 k (omega arith)
 
-  pub few-end : length counts ≤ s → few_tickets (drop s counts) ≡ true
-  unfolding few_tickets every
-  few-end h = rw (drop_of_length-le counts {i = s} h)
+pub few-each : (counts : List ℕ) (r : Bool)
+    → (IsTrue r ↔ EachIndex counts (λ (k : ℕ). slice_index counts k ≤ max_tickets)) → r ≡ few_tickets counts
+few-each counts true h = sym (few-some counts (h.0 refl))
+few-each counts false h = by-test (few_tickets counts) (λ e. h.1 (some-few counts e) ∙ sym e) (λ e. sym e)
 
 -- the set of 16 counts has the servers with tickets, and no other number
 ticket-has : (counts : List ℕ) → length counts ≡ max_servers → (s : ℕ) → member (ticket_set counts) s ≡ ticket_for counts s

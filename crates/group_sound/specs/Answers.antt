@@ -11,7 +11,7 @@ use Rattle.group_rules.specs.declared.Stack.{Stack}
 use Rattle.group_rules.specs.Limits.{max_contexts, max_servers, max_depth}
 use Rattle.group_rules.specs.Groups.{no_calls, has_call}
 use Rattle.group_rules.specs.Sound.{few_tickets}
-use Rattle.blocking.specs.Queue.{ticket_set, blocker_in}
+use Rattle.blocking.specs.Queue.{ticket_set, is_nobody, blocker_in}
 
 -- THE QUEUE
 
@@ -47,7 +47,7 @@ is_some (some s) = true
 unfoldable pub stack_fits : List ℕ → List ℕ → List ℕ → List ℕ → ℕ → Bool
 stack_fits times sets counts places c =
     is_some (queue_seen (member (ticket_set counts)) places 0)
-    && (leb (used_of places) 1 || eqb (blocker_in times sets c) max_contexts)
+    && (leb (used_of places) 1 || is_nobody (blocker_in times sets c))
 
 -- so many counts and places, and the clauses of a context that is queued, or of one that isn't
 unfoldable pub context_fits : Bool → ℕ → List ℕ → List ℕ → ℕ → List ℕ → List ℕ → ℕ → Bool

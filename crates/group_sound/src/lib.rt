@@ -17,21 +17,20 @@ use seen::Seen;
 fn with_queued(queue: u64, s: Stack, c: usize) -> u64
     ensures { result ≡ with_queued queue s.places c }
 {
-    if !is_queued(s) {
-        return queue;
+    if is_queued(s) {
+        sets::with(queue, c)
+    } else {
+        queue
     }
-    sets::with(queue, c)
 }
 
 // The queued contexts, as a set.
 fn queue_of(stacks: [Stack; 8]) -> u64
     ensures { result ≡ queue_set stacks }
 {
-    let mut queue: u64 = 0;
-    let mut c: usize = 0;
-    while c < Group::MAX_CONTEXTS {
-        queue = with_queued(queue, stacks[c], c);
-        c += 1;
+    let mut queue = 0;
+    for (c, s) in stacks.iter().enumerate() {
+        queue = with_queued(queue, *s, c);
     }
     queue
 }
@@ -42,30 +41,16 @@ fn queue_of(stacks: [Stack; 8]) -> u64
 pub fn few_tickets(t: Tickets) -> bool
     ensures { result ≡ few_tickets t.counts }
 {
-    let counts = t.counts;
-    let mut s: usize = 0;
-    while s < Group::MAX_SERVERS {
-        if counts[s] > Group::MAX_TICKETS {
-            return false;
-        }
-        s += 1;
-    }
-    true
+    t.counts.iter().all(|n| *n <= Group::MAX_TICKETS)
 }
 
 // Nothing is held of a context that isn't queued.
 fn is_empty(time: u64, t: Tickets, s: Stack) -> bool
     ensures { result ≡ empty_of time t.counts s.places }
 {
-    if time != 0 {
-        return false;
-    }
-    let counts = t.counts;
-    if !places::holds_only_from(&counts, 0, 0) {
-        return false;
-    }
-    let q = s.places;
-    places::holds_only_from(&q, 0, places::UNUSED)
+    time == 0
+        && places::holds_only_from(&t.counts, 0, 0)
+        && places::holds_only_from(&s.places, 0, places::UNUSED)
 }
 
 // Whether b is one of the others, and has the timestamp of c.
@@ -73,30 +58,22 @@ fn has_time<'a>(times: &'a [u64; 8], others: u64, c: usize, b: usize) -> bool
     requires { (c < max_contexts) × (b < max_contexts) }
     ensures { result ≡ has_time times.now others c b }
 {
-    if times[b] != times[c] {
-        return false;
-    }
-    sets::member(others, b)
+    times[b] == times[c] && sets::member(others, b)
 }
 
 // The timestamp of a queued context is not above the last entry's, and no other queued context has it.
-fn time_sound(entered: bool, last: u64, times: &[u64; 8], queue: u64, c: usize) -> bool
+fn time_sound(g: &Group, queue: u64, c: usize) -> bool
     requires { c < max_contexts }
-    ensures { result ≡ time_fits entered last times.now queue c }
+    ensures { result ≡ time_fits g.now.entered g.now.last g.now.times queue c }
 {
-    if !entered {
-        return false;
-    }
-    if last < times[c] {
+    if !g.entered || g.last < g.times[c] {
         return false;
     }
     let others = sets::without(queue, c);
-    let mut b: usize = 0;
-    while b < Group::MAX_CONTEXTS {
-        if has_time(times, others, c, b) {
+    for b in 0..Group::MAX_CONTEXTS {
+        if has_time(&g.times, others, c, b) {
             return false;
         }
-        b += 1;
     }
     true
 }
@@ -106,21 +83,16 @@ fn stack_sound<'a>(times: &'a [u64; 8], sets: &'a [u64; 8], t: Tickets, s: Stack
     requires { c < max_contexts }
     ensures { result ≡ stack_fits times.now sets.now t.counts s.places c }
 {
-    let q = s.places;
-    let Seen::Once(_) = seen::queue_seen(&q, ticket_set(t), 0) else {
-        return false;
-    };
-    if places::used(&q) <= 1 {
-        return true;
+    if let Seen::Once(_) = seen::queue_seen(&s.places, ticket_set(t), 0) {
+        places::used(&s.places) <= 1 || blocking::blocker(times, sets, c).is_none()
+    } else {
+        false
     }
-    blocking::blocker(times, sets, c) == Group::MAX_CONTEXTS
 }
 
-// One context.
+// One context with these tickets and this stack, by the sets that its group's tickets give, and its queue.
 fn context_sound<'a>(
-    entered: bool,
-    last: u64,
-    times: &'a [u64; 8],
+    g: &'a Group,
     sets: &'a [u64; 8],
     queue: u64,
     t: Tickets,
@@ -128,19 +100,14 @@ fn context_sound<'a>(
     c: usize,
 ) -> bool
     requires { c < max_contexts }
-    ensures { result ≡ context_fits entered last times.now sets.now queue
+    ensures { result ≡ context_fits g.now.entered g.now.last g.now.times sets.now queue
         t.counts s.places c }
 {
-    if !is_queued(s) {
-        return is_empty(times[c], t, s);
+    if is_queued(s) {
+        time_sound(g, queue, c) && few_tickets(t) && stack_sound(&g.times, sets, t, s, c)
+    } else {
+        is_empty(g.times[c], t, s)
     }
-    if !time_sound(entered, last, times, queue, c) {
-        return false;
-    }
-    if !few_tickets(t) {
-        return false;
-    }
-    stack_sound(times, sets, t, s, c)
 }
 
 // THE GROUP
@@ -149,10 +116,7 @@ fn context_sound<'a>(
 fn last_sound(entered: bool, last: u64) -> bool
     ensures { result ≡ (entered || eqb last 0) }
 {
-    if entered {
-        return true;
-    }
-    last == 0
+    entered || last == 0
 }
 
 // Whether a group is sound.
@@ -162,19 +126,12 @@ pub fn sound(g: Group) -> bool
     if !last_sound(g.entered, g.last) {
         return false;
     }
-    let times = g.times;
-    let tickets = g.tickets;
-    let stacks = g.stacks;
-    let sets = blocking::queued_sets(tickets, stacks);
-    let queue = queue_of(stacks);
-    let mut c: usize = 0;
-    while c < Group::MAX_CONTEXTS {
-        if !context_sound(
-            g.entered, g.last, &times, &sets, queue, tickets[c], stacks[c], c,
-        ) {
+    let sets = blocking::queued_sets(g.tickets, g.stacks);
+    let queue = queue_of(g.stacks);
+    for c in 0..Group::MAX_CONTEXTS {
+        if !context_sound(&g, &sets, queue, g.tickets[c], g.stacks[c], c) {
             return false;
         }
-        c += 1;
     }
     true
 }

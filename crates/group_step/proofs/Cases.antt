@@ -4,6 +4,7 @@ use Prim.Native.Nat.{ℕ}
 use mathlib.Core.Path.{◌≡◌, refl}
 use mathlib.Core.Bool.{false}
 use mathlib.Core.List.{[], ◌∷◌, map}
+use Rattle.std.specs.Prelude.{Ok, Err}
 use Rattle.places.specs.Places.{pad, unpad, holds_only, used_first, place_of}
 use Rattle.places.specs.Tests.{every, all_below, distinct}
 use Rattle.group_rules.specs.declared.Group.{Group}
@@ -14,7 +15,7 @@ use Rattle.group_rules.specs.Events.{entry, reply, filled, entry_answer, reply_a
 use Rattle.group_rules.specs.History.{reached}
 use Rattle.group_rules.proofs.Cases.{for}
 use Rattle.blocking.specs.declared.Delegate.TheVariants as delegate
-use Rattle.group_events.specs.declared.Answer.TheVariants as case
+use Rattle.group_events.specs.declared.Refusal.TheVariants as case
 use Rattle.group_step.specs.Doors.{Naming, stepped, ask_answer, named_in, naming, blocked_by, delegates_to}
 
 abbrev two : Group
@@ -59,10 +60,13 @@ unfolding delegates_to ask_answer delegate_of blocker_of step_of answer_of sound
 delegates = refl
 
 named-cases :
-    (named_in (record { answer = case.NotQueued; who = delegate.Nobody }) ∷ naming 45 (server 3)
+    (named_in (Err case.NotQueued) ∷ naming 45 (server 3)
     ∷ naming 0 (server 3) ∷ [])
     ≡ named 45 nobody ∷ named 45 nobody ∷ named 0 (server 3) ∷ []
 named-cases = refl
+
+named-some : named_in (Ok (delegate.Server (record { 0 = 3 }))) ≡ named 0 (server 3)
+named-some = refl
 
 -- a step on a group that isn't sound hands it back with 19; one on a sound group is the event's own
 unsure-step : stepped unsure (reply 0) ≡ record { number = 19; group = unsure }

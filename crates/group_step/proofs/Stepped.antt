@@ -5,10 +5,11 @@ use Prim.Native.Nat.{ℕ, ◌≤◌, ◌<◌}
 use mathlib.Core.Path.{◌≡◌, ap, ◌∙◌}
 use mathlib.Core.Bool.{true, false}
 use native.Mathlib.Omega.{arith}
+use Rattle.std.specs.Prelude.{Ok, Err}
 use lib.Dec.{ltb}
-use borrow.Author.Tests.{ltb-true, lt-ltb, le-ltb, ne_eqb}
+use borrow.Author.Tests.{ltb-true, lt-ltb, le-ltb, eq-eqb, ne_eqb}
 use Rattle.rules.specs.Refusals.{accepted, unsound}
-use Rattle.rules.proofs.Tests.{by-test}
+use Rattle.rules.proofs.Tests.{by-test, clash}
 use Rattle.group_rules.specs.declared.Group.{Group}
 use Rattle.group_rules.specs.Limits.{max_contexts}
 use Rattle.group_rules.specs.Refusals.{no_such, not_queued}
@@ -18,12 +19,11 @@ use Rattle.group_rules.specs.Sound.{sound_of}
 use Rattle.group_rules.specs.Events.{Event, answer_of, step_of}
 use Rattle.group_rules.proofs.Steps.{step-sound}
 use Rattle.blocking.specs.declared.Delegate as code
-use Rattle.blocking.specs.declared.Delegate.TheVariants.{Nobody}
 use Rattle.blocking.specs.Delegates.{told_of}
-use Rattle.group_events.specs.declared.Answer.{Answer}
-use Rattle.group_events.specs.declared.Answer.TheVariants.{Accepted}
+use Rattle.group_events.specs.declared.Refusal.{Refusal}
 use Rattle.group_events.specs.declared.Answered.{Answered}
-use Rattle.group_events.specs.Answers.{number_of, Result, told_in, ruled}
+use Rattle.group_events.specs.Answers.{refusal_of, Result, told_in, ruled}
+use Rattle.group_events.proofs.Told.{refusal-no}
 use Rattle.group_step.specs.Doors.{stepped, ask_answer, named_in, naming}
 
 -- AN EVENT
@@ -77,12 +77,11 @@ module _ (g : Group) (c : ℕ) where
 -- WHOM IT NAMES
 
 module _ (n : ℕ) (d : Delegate) where
-  pub named-nobody : (a : Answer) → number_of a ≡ n → (n ≡ accepted → ⊥)
-      → named_in (record { answer = a; who = Nobody }) ≡ naming n d
-  named-nobody a e h =
+  pub named-nobody : (a : Refusal) → refusal_of a ≡ n → named_in (Err a) ≡ naming n d
+  named-nobody a e =
       ap (λ (k : ℕ). record { number = k; who = nobody }) e
-      ∙ ap (λ (w : Delegate). record { number = n; who = w }) (rw (ne_eqb n accepted h))
+      ∙ ap (λ (w : Delegate). record { number = n; who = w })
+      (rw (← e, ne_eqb (refusal_of a) accepted (λ z. clash (eq-eqb _ accepted z) (refusal-no a))))
 
-  pub named-one : n ≡ accepted → (w : code.Delegate) → told_of w ≡ d
-      → named_in (record { answer = Accepted; who = w }) ≡ naming n d
+  pub named-one : n ≡ accepted → (w : code.Delegate) → told_of w ≡ d → named_in (Ok w) ≡ naming n d
   named-one e w h = rw (e, h)

@@ -7,16 +7,18 @@ use mathlib.Core.Path.{◌≡◌, refl, sym, ap, ◌∙◌}
 use mathlib.Core.Bool.{true}
 use mathlib.Core.List.{List, [], ◌∷◌}
 use borrow.Author.Tests.{ne_eqb}
+use Rattle.std.specs.Prelude as code
+use Rattle.std.specs.Prelude.{Ok, Err}
 use Rattle.rules.specs.Lists.{has}
 use Rattle.rules.specs.Refusals.{accepted}
 use Rattle.group_rules.specs.declared.Tickets.{Tickets}
 use Rattle.group_rules.specs.declared.Group.{Group}
-use Rattle.group_rules.specs.declared.Event as code
+use Rattle.group_rules.specs.declared.Event as event
 use Rattle.group_rules.specs.Groups.{none_entered}
 use Rattle.group_rules.specs.Events.{Event, said, answer_of, step_of}
 use Rattle.group_rules.specs.History.{reached}
-use Rattle.group_events.specs.declared.Answer.{Answer}
-use Rattle.group_events.specs.declared.Answer.TheVariants as case
+use Rattle.group_events.specs.declared.Refusal.{Refusal}
+use Rattle.group_events.specs.declared.Refusal.TheVariants as case
 use Rattle.group_events.specs.declared.Answered.{Answered}
 use Rattle.group_events.specs.Answers.{number_of, Result, told_in}
 use Rattle.group_step.specs.Doors.{stepped}
@@ -25,34 +27,34 @@ use Rattle.group_step.specs.Doors.{stepped}
 abbrev numbers : List ℕ
 numbers = 0 ∷ 19 ∷ 40 ∷ 41 ∷ 42 ∷ 43 ∷ 44 ∷ 45 ∷ 46 ∷ 47 ∷ 48 ∷ 49 ∷ []
 
-listed : (a : Answer) → has (number_of a) numbers ≡ true
-listed case.Accepted = refl
-listed case.Unsound = refl
-listed case.NoSuch = refl
-listed case.QueuedAlready = refl
-listed case.ManyTickets = refl
-listed case.NoFirstTicket = refl
-listed case.NotLater = refl
-listed case.NotQueued = refl
-listed case.NotCommitted = refl
-listed case.NoTicket = refl
-listed case.OnStack = refl
-listed case.StackFull = refl
+listed : (a : code.Result (Unit {0}) Refusal) → has (number_of a) numbers ≡ true
+listed (Ok v) = refl
+listed (Err case.Unsound) = refl
+listed (Err case.NoSuch) = refl
+listed (Err case.QueuedAlready) = refl
+listed (Err case.ManyTickets) = refl
+listed (Err case.NoFirstTicket) = refl
+listed (Err case.NotLater) = refl
+listed (Err case.NotQueued) = refl
+listed (Err case.NotCommitted) = refl
+listed (Err case.NoTicket) = refl
+listed (Err case.OnStack) = refl
+listed (Err case.StackFull) = refl
 
 -- What the door promises of an event: `step`'s own contract.
-abbrev pub Steps : Group → code.Event → Tickets → Answered → Type 0
+abbrev pub Steps : Group → event.Event → Tickets → Answered → Type 0
 Steps g e tickets r = told_in r ≡ stepped g (said e tickets)
 
 -- NONSENSE
 
 -- Any group, any event: the answer is one of these.
-pub answer-listed : (g : Group) (e : code.Event) (tickets : Tickets) (r : Answered) → Steps g e tickets r
+pub answer-listed : (g : Group) (e : event.Event) (tickets : Tickets) (r : Answered) → Steps g e tickets r
     → has (answer_of g (said e tickets)) numbers ≡ true
 answer-listed g e tickets r h =
     ap (λ (x : Result). has x.number numbers) (sym h) ∙ listed r.answer
 
 -- Whatever is not accepted hands back the group.
-pub refused-same : (g : Group) (e : code.Event) (tickets : Tickets) (r : Answered) → Steps g e tickets r
+pub refused-same : (g : Group) (e : event.Event) (tickets : Tickets) (r : Answered) → Steps g e tickets r
     → (number_of r.answer ≡ accepted → ⊥) → r.group ≡ g
 unfolding step_of
 refused-same g e tickets r h n =
@@ -64,7 +66,7 @@ refused-same g e tickets r h n =
 
 -- events at the door, the latest first, each on the group that the one before it left
 pub record Move : Type 0 where
-  pub event : code.Event
+  pub event : event.Event
   pub tickets : Tickets
   pub result : Answered
 

@@ -1,6 +1,7 @@
 -- What the doors of a group answer.
 -- Assumes nothing.
-use Rattle.std.specs.Prelude.{ℕ, cond, eqb}
+use Rattle.std.specs.Prelude as code
+use Rattle.std.specs.Prelude.{ℕ, cond, eqb, Ok, Err}
 use Rattle.rules.specs.Refusals.{accepted, unsound}
 use Rattle.group_rules.specs.declared.Group.{Group}
 use Rattle.group_rules.specs.Refusals.{no_such, not_queued}
@@ -8,9 +9,10 @@ use Rattle.group_rules.specs.Groups.{queued}
 use Rattle.group_rules.specs.Blocking.{Delegate, nobody, to_blocker, blocker_of, delegate_of}
 use Rattle.group_rules.specs.Sound.{sound_of}
 use Rattle.group_rules.specs.Events.{Event, is_context, answer_of, step_of}
+use Rattle.blocking.specs.declared.Delegate as told
 use Rattle.blocking.specs.Delegates.{told_of}
-use Rattle.group_events.specs.Answers.{number_of, Result}
-use Rattle.group_step.specs.declared.Named.{Named}
+use Rattle.group_events.specs.declared.Refusal.{Refusal}
+use Rattle.group_events.specs.Answers.{refusal_of, Result}
 
 -- AN EVENT
 
@@ -29,8 +31,9 @@ pub record Naming : Type 0 where
   pub number : ℕ
   pub who : Delegate
 
-abbrev pub named_in : Named → Naming
-named_in r = record { number = number_of r.answer; who = told_of r.who }
+abbrev pub named_in : code.Result told.Delegate Refusal → Naming
+named_in (Ok d) = record { number = accepted; who = told_of d }
+named_in (Err a) = record { number = refusal_of a; who = nobody }
 
 -- a refused question names nobody
 abbrev pub naming : ℕ → Delegate → Naming

@@ -3,24 +3,31 @@
 // keeps soundness.
 #![tactic(auto)]
 
-ghost use Rattle.std.specs.Prelude.{◌≡◌, true};
+ghost use Rattle.std.specs.Prelude.{◌≡◌, true, ◌<◌, IfOk};
+ghost use Rattle.group_rules.specs.Limits.{max_contexts};
+ghost use Rattle.group_rules.specs.Groups.{queued};
 ghost use Rattle.group_rules.specs.Sound.{sound_of};
 ghost use Rattle.group_rules.specs.Events.{said};
-ghost use Rattle.group_events.specs.Answers.{number_of, told_in};
+ghost use Rattle.group_events.specs.Answers.{number_of, told_in, after_in, ruled};
 ghost use Rattle.group_step.specs.Doors.{stepped, ask_answer, named_in, blocked_by, delegates_to};
 
 use blocking::{Delegate, context_of, is_queued};
-use group_events::{Answer, Answered, call, entry, number, reply, stack_of};
+use group_events::{Answered, Refusal, call, context, entry, reply, returned, stack_of};
 use group_rules::{Context, Event, Group, Tickets};
 
-// The answer to a question, and whom it names.
-#[derive(Clone, Copy)]
-pub struct Named {
-    pub answer: Answer,
-    pub who: Delegate,
-}
-
 // THE INNER DOOR
+
+// The group after an event on a sound group, or its refusal.
+fn after(g: Group, e: Event, tickets: Tickets) -> Result<Group, Refusal>
+    requires { sound_of g ≡ true }
+    ensures { after_in g result ≡ ruled g (said e tickets) }
+{
+    match e {
+        Event::Entry(c, time, first) => entry(g, c, time, first, tickets),
+        Event::Call(c, s) => call(g, c, s),
+        Event::Reply(c) => reply(g, c),
+    }
+}
 
 // An event on a sound group. The tickets are those that an entry brings; of other events they are not looked at.
 pub fn sound_step(g: Group, e: Event, tickets: Tickets) -> Answered
@@ -28,11 +35,7 @@ pub fn sound_step(g: Group, e: Event, tickets: Tickets) -> Answered
     ensures result_value { told_in result ≡ stepped g (said e tickets) }
     ensures group_value { sound_of result.group ≡ true }
 {
-    match e {
-        Event::Entry(c, time, first) => entry(g, c, time, first, tickets),
-        Event::Call(c, s) => call(g, c, s),
-        Event::Reply(c) => reply(g, c),
-    }
+    returned(g, after(g, e, tickets))
 }
 
 // THE PUBLIC DOORS
@@ -43,70 +46,43 @@ pub fn step(g: Group, e: Event, tickets: Tickets) -> Answered
 {
     if !group_sound::sound(g) {
         return Answered {
-            answer: Answer::Unsound,
+            answer: Err(Refusal::Unsound),
             group: g,
         };
     }
     sound_step(g, e, tickets)
 }
 
-// Whether a question about a context is answered: 19, 40, 45.
-fn ask(g: Group, c: Context) -> Answer
-    ensures { number_of result ≡ ask_answer g c.0 }
+// The index of a context about which a question is answered: 19, 40, 45.
+fn ask(g: Group, c: Context) -> Result<usize, Refusal>
+    ensures answer { number_of result ≡ ask_answer g c.0 }
+    ensures index { IfOk result (λ i. i ≡ c.0) }
 {
     if !group_sound::sound(g) {
-        return Answer::Unsound;
+        return Err(Refusal::Unsound);
     }
-    let i = places::wide(c.0);
-    if i >= Group::MAX_CONTEXTS {
-        return Answer::NoSuch;
-    }
+    let i = context(c)?;
     if !is_queued(stack_of(g, i)) {
-        return Answer::NotQueued;
+        return Err(Refusal::NotQueued);
     }
-    Answer::Accepted
+    Ok(i)
 }
 
 // Who blocks a context directly: nobody, if it is committed.
-pub fn blocker(g: Group, c: Context) -> Named
+pub fn blocker(g: Group, c: Context) -> Result<Delegate, Refusal>
     ensures { named_in result ≡ blocked_by g c.0 }
 {
-    let a = ask(g, c);
-    if number(a) != 0 {
-        return Named {
-            answer: a,
-            who: Delegate::Nobody,
-        };
-    }
-    let times = g.times;
-    let tickets = g.tickets;
-    let stacks = g.stacks;
-    let sets = blocking::queued_sets(tickets, stacks);
-    let b = blocking::blocker(&times, &sets, places::wide(c.0));
-    Named {
-        answer: Answer::Accepted,
-        who: context_of(b),
-    }
+    let i = ask(g, c)?;
+    let sets = blocking::queued_sets(g.tickets, g.stacks);
+    let found = blocking::blocker(&g.times, &sets, i);
+    Ok(context_of(found))
 }
 
 // To whom a context delegates its bandwidth: the server of its current request, or the context that blocks it directly.
-pub fn delegate(g: Group, c: Context) -> Named
+pub fn delegate(g: Group, c: Context) -> Result<Delegate, Refusal>
     ensures { named_in result ≡ delegates_to g c.0 }
 {
-    let a = ask(g, c);
-    if number(a) != 0 {
-        return Named {
-            answer: a,
-            who: Delegate::Nobody,
-        };
-    }
-    let times = g.times;
-    let tickets = g.tickets;
-    let stacks = g.stacks;
-    let sets = blocking::queued_sets(tickets, stacks);
-    let i = places::wide(c.0);
-    Named {
-        answer: Answer::Accepted,
-        who: blocking::delegates_to(&times, &sets, stack_of(g, i), i),
-    }
+    let i = ask(g, c)?;
+    let sets = blocking::queued_sets(g.tickets, g.stacks);
+    Ok(blocking::delegates_to(&g.times, &sets, stack_of(g, i), i))
 }

@@ -26,13 +26,6 @@ pub returns-then-not-is_queued : goal.returns-then-not-is_queued
 unfolding delegate_in
 returns-then-not-is_queued c = rw (sym c.is_queued.ensures ∙ c.if-not-is_queued.true)
 
-pub returns-then-b-lt-MAX_CONTEXTS : goal.returns-then-b-lt-MAX_CONTEXTS
-returns-then-b-lt-MAX_CONTEXTS c =
-    let a = c.args in
-    c.context_of.ensures
-    ∙ sym (delegate-blocked a.times.now a.sets.now a.s.places a.c c.blocker-b.result (waits _ _ c.is_queued.ensures c.if-not-is_queued.false)
-    c.blocker-b.ensures.value c.if-b-lt-MAX_CONTEXTS.true)
-
 pub top-requires : goal.top-requires
 top-requires c =
     let q = c.args.s.places in
@@ -40,11 +33,18 @@ top-requires c =
     let u : c.used.result ≡ length (unpad q) = c.used.ensures ∙ used-unpad q in
     (omega (arith, ltb-true 0 (length (unpad q)) (waits _ _ c.is_queued.ensures c.if-not-is_queued.false), u), omega (arith, u, n, unpad-fits q))
 
-pub returns : goal.returns
-returns c =
+pub returns-in-None : goal.returns-in-None
+returns-in-None c =
     let a = c.args in
     let q = a.s.places in
     c.top.ensures ∙ ap (λ n. server (get_or q (n - 1) 0)) c.used.ensures
     ∙ ap server (sym (last-used q (waits _ _ c.is_queued.ensures c.if-not-is_queued.false)))
-    ∙ sym (delegate-serves a.times.now a.sets.now q a.c c.blocker-b.result (waits _ _ c.is_queued.ensures c.if-not-is_queued.false)
-    c.blocker-b.ensures.value (omega (arith, c.blocker-b.ensures.upper_bound, c.if-b-lt-MAX_CONTEXTS.false)))
+    ∙ delegate-serves a.times.now a.sets.now q a.c (waits _ _ c.is_queued.ensures c.if-not-is_queued.false)
+    c.in-None.ensures.value
+
+pub returns-in_default : goal.returns-in_default
+returns-in_default c =
+    let a = c.args in
+    c.context_of.ensures
+    ∙ delegate-blocked a.times.now a.sets.now a.s.places a.c (waits _ _ c.is_queued.ensures c.if-not-is_queued.false)
+    _ c.in_default.not-None c.blocker.ensures.value

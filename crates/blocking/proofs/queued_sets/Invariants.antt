@@ -1,6 +1,6 @@
 -- `blocking::queued_sets` meets its contract: the loop holds the sets of those that it has passed.
 -- Assumes nothing.
-use Prim.Native.Nat.{ℕ, ◌-◌, ◌≤◌, ◌<◌}
+use Prim.Native.Nat.{ℕ, ◌<◌}
 use mathlib.Core.Path.{◌≡◌}
 use lib.ListN.{length, get_or}
 use Rattle.group_rules.specs.Limits.{max_contexts}
@@ -10,9 +10,6 @@ use Rattle.blocking.proofs.queued_sets.Given as goal
 
 abbrev pub invariant-loop-c : goal.invariant-loop-c
 invariant-loop-c l =
-    (l.c ≤ max_contexts) × (length l.sets ≡ max_contexts)
+    (length l.set-items ≡ max_contexts)
     × ((i : ℕ) → i < l.c
-    → get_or l.sets i 0 ≡ queued_set (get_or l.tickets i no_tickets).counts (get_or l.stacks i no_calls).places)
-
-abbrev pub decreases-loop-c : goal.decreases-loop-c
-decreases-loop-c l = max_contexts - l.c
+    → get_or l.set-items i 0 ≡ queued_set (get_or l.tickets i no_tickets).counts (get_or l.stacks i no_calls).places)

@@ -11,26 +11,17 @@ use Rattle.blocking.proofs.ticket_set.Goals as goal
 
 pub loop-s-init : goal.loop-s-init
 unfolding set_of
-loop-s-init c = (omega arith, refl)
-
-pub overflow_add-s : goal.overflow_add-s
-overflow_add-s c = omega arith
-
-pub loop-s-smaller : goal.loop-s-smaller
-loop-s-smaller c = omega arith
+loop-s-init c = refl
 
 pub loop-s-preserved : goal.loop-s-preserved
 loop-s-preserved c =
     let l = c.loop-s in
-    let counts = c.args.t.counts in (
-      omega arith,
-      c.with_ticket-set.ensures ∙ ap (λ x. with_ticket x (get_or counts l.s 0) l.s) l.invariant.1
-          ∙ ticket-more counts l.s (omega arith),
-    )
+    let counts = c.args.t.counts in
+    c.with_ticket-set.ensures ∙ ap (λ x. with_ticket x (get_or counts l.s 0) l.s) l.invariant
+    ∙ ticket-more counts l.s (omega arith)
 
 pub returns : goal.returns
 unfolding ticket_set
 returns c =
-    let l = c.loop-s in
-    let e : l.s ≡ max_servers = omega arith in
-    l.invariant.1 ∙ ap (λ n. set_of n (ticket_for c.args.t.counts)) e
+    let e : c.loop-s.s ≡ max_servers = omega arith in
+    c.loop-s.invariant ∙ ap (λ n. set_of n (ticket_for c.args.t.counts)) e

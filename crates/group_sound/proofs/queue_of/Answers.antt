@@ -14,28 +14,19 @@ use Rattle.group_sound.proofs.queue_of.Goals as goal
 
 pub loop-c-init : goal.loop-c-init
 unfolding set_of
-loop-c-init c = (omega arith, refl)
-
-pub overflow_add-c : goal.overflow_add-c
-overflow_add-c c = omega arith
-
-pub loop-c-smaller : goal.loop-c-smaller
-loop-c-smaller c = omega arith
+loop-c-init c = refl
 
 pub loop-c-preserved : goal.loop-c-preserved
 loop-c-preserved c =
     let l = c.loop-c in
-    let stacks = c.args.stacks in (
-      omega arith,
-      c.with_queued-queue.ensures
-          ∙ ap₂ (λ q s. with_queued q s.places l.c) l.invariant.1
-          (get_d_any stacks l.c _ no_calls (omega (arith, stacks-length stacks 8 _ c.well_formed.0)))
-          ∙ set_of-next l.c (queued_in stacks) (omega arith),
-    )
+    let stacks = c.args.stacks in
+    c.with_queued-queue.ensures
+    ∙ ap₂ (λ q s. with_queued q s.places l.c) l.invariant
+    (get_d_any stacks l.c _ no_calls (omega (arith, stacks-length stacks 8 _ c.well_formed.0)))
+    ∙ set_of-next l.c (queued_in stacks) (omega arith)
 
 pub returns : goal.returns
 unfolding queue_set
 returns c =
-    let l = c.loop-c in
-    let e : l.c ≡ max_contexts = omega arith in
-    l.invariant.1 ∙ ap (λ n. set_of n (queued_in c.args.stacks)) e
+    let e : c.loop-c.c ≡ max_contexts = omega arith in
+    c.loop-c.invariant ∙ ap (λ n. set_of n (queued_in c.args.stacks)) e

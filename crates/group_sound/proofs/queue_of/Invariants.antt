@@ -1,14 +1,9 @@
 -- `group_sound::queue_of` meets its contract: the loop holds the queued contexts that it has passed.
 -- Assumes nothing.
-use Prim.Native.Nat.{◌-◌, ◌≤◌}
 use mathlib.Core.Path.{◌≡◌}
 use Rattle.sets.specs.Sets.{set_of}
-use Rattle.group_rules.specs.Limits.{max_contexts}
 use Rattle.group_sound.proofs.Times.{queued_in}
 use Rattle.group_sound.proofs.queue_of.Given as goal
 
 abbrev pub invariant-loop-c : goal.invariant-loop-c
-invariant-loop-c l = (l.c ≤ max_contexts) × (l.queue ≡ set_of l.c (queued_in l.stacks))
-
-abbrev pub decreases-loop-c : goal.decreases-loop-c
-decreases-loop-c l = max_contexts - l.c
+invariant-loop-c l = l.queue ≡ set_of l.c (queued_in l.s-items)

@@ -39,7 +39,7 @@ returns-then-not-last_sound c =
     (sym (and-false (eight_contexts c.args.g)))
 
 pub loop-c-init : goal.loop-c-init
-loop-c-init c = (omega arith, all_none (context_sound _))
+loop-c-init c = all_none (context_sound _)
 
 pub returns-then-not-context_sound : goal.returns-then-not-context_sound
 unfolding sound_of
@@ -55,22 +55,14 @@ returns-then-not-context_sound c =
       and-false (g.entered || eqb g.last 0),
     ) (sym (and-false (eight_contexts g)))
 
-pub overflow_add-c : goal.overflow_add-c
-overflow_add-c c = omega arith
-
-pub loop-c-smaller : goal.loop-c-smaller
-loop-c-smaller c = omega arith
-
 pub loop-c-preserved : goal.loop-c-preserved
 loop-c-preserved c =
     let g = c.args.g in
     let h = c.well_formed.0 in
     let known : context_sound g c.loop-c.c ≡ c.context_sound.result =
     context g c.queued_sets-sets.result c.queued_sets-sets.ensures.1 (tickets-long g _ h) (stacks-long g _ h) c.loop-c.c
-    (omega arith) _ _ c.queue_of-queue.ensures c.context_sound.ensures in (
-      omega arith,
-      all_more c.loop-c.c (context_sound _) (known ∙ c.if-not-context_sound.false) c.loop-c.invariant.1,
-    )
+    (omega arith) _ _ c.queue_of-queue.ensures c.context_sound.ensures in
+    all_more c.loop-c.c (context_sound _) (known ∙ c.if-not-context_sound.false) c.loop-c.invariant
 
 pub returns : goal.returns
 unfolding sound_of
@@ -82,5 +74,5 @@ returns c =
       eq-eqb (length g.tickets) max_contexts (tickets-long g _ h),
       eq-eqb (length g.stacks) max_contexts (stacks-long g _ h),
       sym c.last_sound.ensures ∙ c.if-not-last_sound.false,
-      all_done max_contexts c.loop-c.c (context_sound g) (omega arith) (omega arith) c.loop-c.invariant.1,
+      all_done max_contexts c.loop-c.c (context_sound g) (omega arith) (omega arith) c.loop-c.invariant,
     )

@@ -2,10 +2,10 @@
 -- Assumes nothing.
 use mathlib.Core.Path.{sym, ap, ◌∙◌}
 use native.Mathlib.Omega.{arith}
-use lib.Dec.{eqb}
 use borrow.Author.Tests.{le-leb, lt-leb}
 use Rattle.seen.specs.Seen.{seen_of}
-use Rattle.group_rules.specs.Limits.{max_contexts}
+use Rattle.blocking.specs.Queue.{is_nobody}
+use Rattle.blocking.proofs.Found.{none-nobody}
 use Rattle.group_sound.specs.Answers.{stack_fits}
 use Rattle.group_sound.proofs.stack_sound.Goals as goal
 
@@ -24,12 +24,12 @@ returns-then-used-le1 c =
       le-leb c.used.result 1 (omega arith),
     )
 
-pub returns : goal.returns
+pub returns-else-used-le1 : goal.returns-else-used-le1
 unfolding stack_fits
-returns c =
+returns-else-used-le1 c =
     rw (
       sym c.ticket_set.ensures,
       sym c.queue_seen.ensures ∙ ap seen_of c.in-Once.is,
       sym c.used.ensures,
       lt-leb c.used.result 1 (omega arith),
-    ) (ap (λ b. eqb b max_contexts) c.blocker.ensures.value)
+    ) (none-nobody c.blocker.result c.is_none.result c.is_none.ensures ∙ ap is_nobody c.blocker.ensures.value)
