@@ -9,7 +9,6 @@ ghost use Rattle.group_sound.specs.Answers.{stack_fits, context_fits};
 
 use blocking::{is_queued, ticket_set};
 use group_rules::{Group, Stack, Tickets};
-use seen::Seen;
 
 // THE QUEUE
 
@@ -83,11 +82,10 @@ fn stack_sound<'a>(times: &'a [u64; 8], sets: &'a [u64; 8], t: Tickets, s: Stack
     requires { c < max_contexts }
     ensures { result ≡ stack_fits times.now sets.now t.counts s.places c }
 {
-    if let Seen::Once(_) = seen::queue_seen(&s.places, ticket_set(t), 0) {
-        places::used(&s.places) <= 1 || blocking::blocker(times, sets, c).is_none()
-    } else {
-        false
+    if seen::queue_seen(&s.places, ticket_set(t), 0).is_none() {
+        return false;
     }
+    places::used(&s.places) <= 1 || blocking::blocker(times, sets, c).is_none()
 }
 
 // One context with these tickets and this stack, by the sets that its group's tickets give, and its queue.

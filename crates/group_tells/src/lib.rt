@@ -9,7 +9,7 @@ ghost use Rattle.group_tells.specs.Tells.{event_text, malformed_text, line_bytes
 
 use blocking::Delegate;
 use group_rules::Group;
-use text::{LF, SPACE, put_byte, put_bytes, put_number, wide};
+use text::{LF, SPACE, put_byte, put_bytes, put_number};
 
 // The most bytes of a line: two numbers of 20 digits with a byte after each, and eight fields of a space, a letter and
 // 20 digits.
@@ -25,11 +25,11 @@ fn put_field(out: &mut [u8], at: usize, d: Delegate) -> usize
         Delegate::Nobody => put_bytes(out, at, b" ."),
         Delegate::Server(s) => {
             let i = put_bytes(out, at, b" +");
-            put_number(out, i, wide(s.0))
+            put_number(out, i, u64::from(s.0))
         }
         Delegate::Context(b) => {
             let i = put_bytes(out, at, b" <");
-            put_number(out, i, wide(b.0))
+            put_number(out, i, u64::from(b.0))
         }
     }
 }
@@ -40,15 +40,10 @@ fn put_fields(out: &mut [u8], at: usize, g: Group) -> usize
     ensures wrote_at { WroteAt at (fields_text g) out.old out.new result }
     ensures upper_bound { result ≤ at + fields_bytes }
 {
-    let times = g.times;
-    let tickets = g.tickets;
-    let stacks = g.stacks;
-    let sets = blocking::queued_sets(tickets, stacks);
+    let sets = blocking::queued_sets(g.tickets, g.stacks);
     let mut n = at;
-    let mut c: usize = 0;
-    while c < Group::MAX_CONTEXTS {
-        n = put_field(out, n, blocking::delegates_to(&times, &sets, stacks[c], c));
-        c += 1;
+    for (c, s) in g.stacks.iter().enumerate() {
+        n = put_field(out, n, blocking::delegates_to(&g.times, &sets, *s, c));
     }
     n
 }

@@ -14,15 +14,14 @@ returns-in-Nobody c =
 pub returns-in-Server : goal.returns-in-Server
 returns-in-Server c =
     rw c.in-Server.is (record {
-      wrote_at = rw (← c.wide.ensures) (wrote_on c.put_bytes-i.ensures (omega arith) c.put_number.ensures.wrote_at);
+      wrote_at = rw (← c.from.ensures) (wrote_on c.put_bytes-i.ensures (omega arith) c.put_number.ensures.wrote_at);
       upper_bound = omega (arith, c.put_bytes-i.ensures.ends, c.put_number.ensures.upper_bound);
     })
 
 pub returns-in-Context : goal.returns-in-Context
 returns-in-Context c =
     rw c.in-Context.is (record {
-      wrote_at = rw (← c.wide-in-Context.ensures)
-          (wrote_on c.put_bytes-i-in-Context.ensures (omega arith) c.put_number-in-Context.ensures.wrote_at);
+      wrote_at = rw (← c.from-in-Context.ensures) (wrote_on c.put_bytes-i-in-Context.ensures (omega arith) c.put_number-in-Context.ensures.wrote_at);
       upper_bound = omega (
         arith,
         c.put_bytes-i-in-Context.ensures.ends,

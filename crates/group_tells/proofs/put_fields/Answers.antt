@@ -18,25 +18,10 @@ use Rattle.group_tells.proofs.put_fields.Goals as goal
 pub loop-c-init : goal.loop-c-init
 unfolding first_in
 loop-c-init c = let a = c.args in
-    (wrote_none a.at a.out.now, omega arith, omega arith, omega arith)
-
-pub offset_bounds-stacks-c : goal.offset_bounds-stacks-c
-offset_bounds-stacks-c c = omega arith
-
-pub bounds-stacks-c : goal.bounds-stacks-c
-bounds-stacks-c c = omega arith
-
-pub delegates_to-requires : goal.delegates_to-requires
-delegates_to-requires c = omega arith
+    (wrote_none a.at a.out.now, omega arith, omega arith)
 
 pub put_field-n-requires : goal.put_field-n-requires
 put_field-n-requires c = omega arith
-
-pub overflow_add-c : goal.overflow_add-c
-overflow_add-c c = omega arith
-
-pub loop-c-smaller : goal.loop-c-smaller
-loop-c-smaller c = omega arith
 
 pub loop-c-preserved : goal.loop-c-preserved
 unfolding first_in
@@ -52,10 +37,10 @@ loop-c-preserved c =
     let within : c.loop-c.n ≤ length c.args.out.now = omega arith in
     let w = wrote_on c.loop-c.invariant.0 within c.put_field-n.ensures.wrote_at in
     let most : c.put_field-n.result ≤ c.args.at + (i + 1) * field_bytes = omega (arith, c.put_field-n.ensures.upper_bound) in
-    (rw (add-one, ← own) w, most, omega arith, wrote-length w (omega arith))
+    (rw (add-one, ← own) w, most, wrote-length w (omega arith))
 
 pub shape_of-out : goal.shape_of-out
-shape_of-out c = c.loop-c.invariant.3
+shape_of-out c = c.loop-c.invariant.2
 
 pub returns : goal.returns
 returns c =
