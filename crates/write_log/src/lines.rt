@@ -9,7 +9,7 @@ use crate::input::{INPUT, MAX_ROOM};
 use layout::RECORD;
 use logs::Refusal;
 use report::put_refused;
-use text::{LF, SPACE, put_byte, put_bytes, put_number, wide_size};
+use text::{LF, SPACE, put_byte, put_bytes, put_number};
 
 // Room for a line: two numbers of 20 digits, and a byte after each.
 const LINE: usize = 2 * (20 + 1);
@@ -43,7 +43,7 @@ pub fn put_entry(out: &mut [u8; TEXT], at: usize, i: usize, answer: u64) -> usiz
     requires { at + line_bytes ≤ text_bytes }
     ensures { result ≤ at + line_bytes }
 {
-    let a = put_number(out, at, wide_size(i));
+    let a = put_number(out, at, i as u64);
     let b = put_byte(out, a, SPACE);
     let c = put_number(out, b, answer);
     put_byte(out, c, LF)
@@ -55,28 +55,20 @@ pub fn put_buffer(out: &mut [u8; TEXT], at: usize, buffer: &[u8]) -> usize
     ensures { result ≤ length out.new }
 {
     let mut end = at;
-    let mut i: usize = 0;
-    while i < buffer.len() {
-        end = put_hex(out, end, buffer[i]);
-        i += 1;
+    for b in buffer {
+        end = put_hex(out, end, *b);
     }
     put_byte(out, end, LF)
 }
+
+// The digits of hexadecimal numbers.
+const HEX: [u8; 16] = *b"0123456789abcdef";
 
 // A byte as two hexadecimal digits.
 fn put_hex(out: &mut [u8; TEXT], at: usize, b: u8) -> usize
     requires { at + 2 ≤ text_bytes }
     ensures { result ≡ at + 2 }
 {
-    let next = put_byte(out, at, hex(b / 16));
-    put_byte(out, next, hex(b % 16))
-}
-
-fn hex(n: u8) -> u8
-    requires { n < 16 }
-{
-    if n < 10 {
-        return b'0' + n;
-    }
-    b'a' + (n - 10)
+    let next = put_byte(out, at, HEX[usize::from(b / 16)]);
+    put_byte(out, next, HEX[usize::from(b % 16)])
 }

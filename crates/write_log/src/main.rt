@@ -9,14 +9,13 @@ ghost use Rattle.std.specs.Prelude.{◌≡◌, ◌+◌, ◌*◌, ◌≤◌, leng
 ghost use Rattle.layout.specs.Layout.{record_size};
 ghost use Rattle.write_log.specs.Sizes.{max_room, input_bytes, most_records, line_bytes, text_bytes};
 
-use gate::Setup;
-use input::{Asked, INPUT, MAX_ROOM, read_input, room_in};
+use gate::{Record, Setup};
+use input::{INPUT, MAX_ROOM, read_input, room_in};
 use layout::record_size;
 use lines::{TEXT, put_buffer, put_entry, put_named, put_refusal};
-use logs::{Next, Opening, Refusal, record_at};
+use logs::{Refusal, record_at};
 use std::io::Write;
 use streams::Whole;
-use text::wide_size;
 
 // What a byte of the buffer holds before anything is written there.
 const UNWRITTEN: u8 = 255;
@@ -48,15 +47,14 @@ fn main(rt: HostRuntime) {
 fn try_input<W: Write, E: Write>(input: &[u8], stdout: &mut W, stderr: &mut E)
     requires { length input.now ≤ input_bytes }
 {
-    let asked = room_in(input);
-    let Asked::Room(room, start) = asked else {
+    let Some(asked) = room_in(input) else {
         streams::tell(
             stderr,
             b"the input does not begin with a room from 0 to 65535 and a line feed\n",
         );
         return;
     };
-    print_tried(&input[start..], room, stdout, stderr);
+    print_tried(&input[asked.log..], asked.room, stdout, stderr);
 }
 
 // Tries it on a log in a room, and prints what comes of that.
@@ -74,12 +72,9 @@ fn put_tried(log: &[u8], room: usize, out: &mut [u8; TEXT]) -> usize
     ensures { result ≤ length out.new }
 {
     let o = logs::open(log);
-    let opening = o.opening;
-    let version = o.version;
-    let setup = o.setup;
-    match opening {
-        Opening::Refused(r) => put_refusal(out, 0, r),
-        Opening::Records(start) => put_in_room(log, version, start, setup, room, out),
+    match o.opening {
+        Err(r) => put_refusal(out, 0, r),
+        Ok(start) => put_in_room(log, o.version, start, o.setup, room, out),
     }
 }
 
@@ -111,18 +106,16 @@ fn put_written(
     requires { (length log.now ≤ input_bytes) × (length buffer.old ≤ max_room) }
     ensures { result ≤ length out.new }
 {
-    let w = writing::write_setup(buffer, version, setup);
-    let answer = w.answer;
-    let n = writing::number(answer);
-    let end = put_named(out, 0, b"tables ", n);
-    if n != 0 {
+    let answer = writing::write_setup(buffer, version, setup);
+    let end = put_named(out, 0, b"tables ", writing::number(answer));
+    let Ok(used) = answer else {
         return put_buffer(out, end, buffer);
-    }
+    };
     let first = Standing {
         index: 0,
         next: start,
-        used: w.used,
-        end: end,
+        used,
+        end,
     };
     let last = write_records(log, version, setup.timed, first, buffer, out);
     put_last(log, last, buffer, out)
@@ -142,11 +135,10 @@ fn write_records(
 {
     let mut s = first;
     while s.next < log.len() {
-        let Next::Recorded(code, argument, deadline, _) = record_at(log, version, timed, s.next)
-        else {
+        let Ok(read) = record_at(log, version, timed, s.next) else {
             break;
         };
-        s = write_next(version, timed, code, argument, deadline, s, buffer, out);
+        s = write_next(version, timed, read.raw, s, buffer, out);
     }
     s
 }
@@ -155,9 +147,7 @@ fn write_records(
 fn write_next(
     version: u16,
     timed: bool,
-    code: u8,
-    argument: u16,
-    deadline: u32,
+    r: Record,
     s: Standing,
     buffer: &mut [u8],
     out: &mut [u8; TEXT],
@@ -165,12 +155,11 @@ fn write_next(
     requires { (s.index ≤ s.next) × (s.next ≤ input_bytes) × (s.end + line_bytes ≤ text_bytes) }
     ensures { (result.index ≡ s.index + 1) × (s.next + record_size 1 ≤ result.next) × (result.end ≤ s.end + line_bytes) }
 {
-    let w = writing::write_record(buffer, s.used, version, timed, code, argument, deadline);
-    let answer = w.answer;
+    let answer = writing::write_record(buffer, s.used, version, timed, r);
     Standing {
         index: s.index + 1,
         next: s.next + record_size(version),
-        used: w.used,
+        used: answer.unwrap_or(s.used),
         end: put_entry(out, s.end, s.index, writing::number(answer)),
     }
 }
@@ -183,6 +172,6 @@ fn put_last(log: &[u8], s: Standing, buffer: &[u8], out: &mut [u8; TEXT]) -> usi
     if s.next < log.len() {
         return put_refusal(out, s.end, Refusal::CutRecord(s.next));
     }
-    let end = put_named(out, s.end, b"wrote ", wide_size(s.used));
+    let end = put_named(out, s.end, b"wrote ", s.used as u64);
     put_buffer(out, end, buffer)
 }
