@@ -5,6 +5,8 @@ use mathlib.Core.Path.{◌≡◌, refl, ap, ◌∙◌}
 use mathlib.Core.Bool.{true, false, ◌||◌}
 use lib.Dec.{eqb, ltb, leb}
 use mathlib.Core.List.{List, [], ◌∷◌, ◌++◌, map}
+use Rattle.std.specs.Prelude as std
+use Rattle.std.specs.Prelude.{Ok, Err}
 use lib.ListN.{length}
 use borrow.Author.Tests.{ne_eqb}
 use Rattle.rules.specs.Limits.{max_clients}
@@ -25,8 +27,8 @@ use Rattle.rules.proofs.Quotes.{quote-cases}
 use Rattle.rules.proofs.Theorems.{refused-same}
 use Rattle.gate.specs.declared.Setup.{Setup}
 use Rattle.gate.specs.declared.Gate.{Gate}
-use Rattle.gate.specs.declared.Verdict.{Verdict}
-use Rattle.gate.specs.declared.Verdict.TheVariants as given
+use Rattle.gate.specs.declared.Refusal as setup
+use Rattle.gate.specs.declared.Refusal.TheVariants as given
 use Rattle.gate.specs.Shown.{setup_of, state_of, shown}
 use Rattle.gate.specs.Made as verdict
 use Rattle.gate.specs.Made.{empty_gate, fresh_gate, verdict_of, made}
@@ -37,7 +39,6 @@ use Rattle.answers.specs.declared.Answer.{Answer}
 use Rattle.answers.specs.declared.Answer.TheVariants as is
 use Rattle.answers.specs.Answers.{number_of}
 use Rattle.step.specs.Stepped.{Result, stepped}
-use Rattle.logs.specs.declared.Opening.TheVariants.{Records, Refused}
 use Rattle.logs.specs.declared.Refusal.{Refusal}
 use Rattle.logs.specs.declared.Refusal.TheVariants.{Long, Short, BadMark, BadVersion, BadClusters, NoCap}
 use Rattle.logs.specs.declared.Refusal.TheVariants.{ManyClients, CutTables, BadRanks, BadSize, BadRow, CutRecord}
@@ -91,12 +92,12 @@ place_of o =
     (λ n. refl) (λ n. absurd (n refl)) (λ n. refl) (λ f n. refl)
 
 -- A log refused before its records is answered by its number and offset alone ..
-pub refused-log : (l : List ℕ) (r : Refusal) → opening_of l ≡ Refused r → report_of l ≡ refused_line (told r)
+pub refused-log : (l : List ℕ) (r : Refusal) → opening_of l ≡ Err r → report_of l ≡ refused_line (told r)
 unfolding report_of
 refused-log l r e = rw e
 
 -- .. and one whose last record is cut by the lines of its whole records, then 23 and that record's offset.
-pub cut-log : (l : List ℕ) (start : ℕ) → opening_of l ≡ Records start
+pub cut-log : (l : List ℕ) (start : ℕ) → opening_of l ≡ Ok start
     → (start + record_size (version_in l) * whole l start ≡ length l → ⊥)
     → report_of l ≡ heading (version_in l) (setup_in l).clusters (setup_in l).clients (setup_in l).cap (setup_in l).tidy
     ++ (entry_lines 0 (entries_from (setup_of (setup_in l)) fresh (heards_in l start))
@@ -199,13 +200,13 @@ answer-number is.Unsound = refl
 answer-number is.NotTidying = refl
 
 -- of a setup's verdict,
-pub verdict-number : (v : Verdict) → has (verdict.told v).number of_setup ≡ true
-verdict-number given.Accepted = refl
-verdict-number given.BadClusters = refl
-verdict-number given.NoCap = refl
-verdict-number given.ManyClients = refl
-verdict-number (given.BadSize k) = refl
-verdict-number (given.BadRow c) = refl
+pub verdict-number : (v : std.Result (Unit {0}) setup.Refusal) → has (verdict.told v).number of_setup ≡ true
+verdict-number (Ok a) = refl
+verdict-number (Err given.BadClusters) = refl
+verdict-number (Err given.NoCap) = refl
+verdict-number (Err given.ManyClients) = refl
+verdict-number (Err (given.BadSize k)) = refl
+verdict-number (Err (given.BadRow c)) = refl
 
 -- and of a quote.
 pub quote-number : (a : quoted.Answer) → has (quotes.told a).answer of_order ≡ true

@@ -5,6 +5,7 @@ use Prim.Native.Nat.{ℕ, ◌+◌, ◌*◌, ◌<◌}
 use mathlib.Core.Path.{◌≡◌, refl, ◌∙◌}
 use mathlib.Core.Bool.{false, true}
 use mathlib.Core.List.{List, [], ◌∷◌, map, reverse}
+use Rattle.std.specs.Prelude.{Ok, Err}
 use native.Mathlib.Omega.{arith}
 use lib.ListN.{length, replicate}
 use Rattle.rules.specs.Refusals.{accepted, bad_clusters}
@@ -22,7 +23,6 @@ use Rattle.rules.proofs.Cases.{log_setup, log_records, quiet_records}
 use Rattle.gate.specs.declared.Setup.{Setup}
 use Rattle.gate.specs.Shown.{setup_of, table}
 use Rattle.gate.specs.Made.{verdict_of, made, trimmed_in, zero_past, empty_bytes}
-use Rattle.logs.specs.declared.Opening.TheVariants.{Records, Refused}
 use Rattle.logs.specs.declared.Refusal.TheVariants.{Short}
 use Rattle.layout.specs.Tables.{setup_in}
 use Rattle.logs.specs.Opening.{head_of, tables_of, opening_of}
@@ -42,7 +42,7 @@ unfolding setup_answer
 empty-refused = refl
 
 -- A log that is too short ..
-pub short-log : opening_of [] ≡ Refused Short
+pub short-log : opening_of [] ≡ Err Short
 unfolding opening_of head_of
 short-log = refl
 
@@ -50,7 +50,7 @@ short-log = refl
 abbrev pub cut_bytes : List ℕ
 cut_bytes = 71 ∷ 84 ∷ 76 ∷ 1 ∷ 0 ∷ 1 ∷ 0 ∷ 10 ∷ 0 ∷ 1 ∷ 1 ∷ []
 
-pub cut-opens : opening_of cut_bytes ≡ Records 10
+pub cut-opens : opening_of cut_bytes ≡ Ok 10
 unfolding opening_of head_of tables_of setup_in verdict_of setup_answer table
 cut-opens = refl
 

@@ -4,6 +4,7 @@ use Prim.Native.Nat.{ℕ, ◌+◌, ◌*◌, ◌≤◌}
 use mathlib.Core.Path.{◌≡◌, refl, sym, ap, ◌∙◌}
 use mathlib.Core.Bool.{Bool, true, false, not, ◌&&◌}
 use mathlib.Core.List.{List, [], ◌∷◌, map}
+use Rattle.std.specs.Prelude.{Ok}
 use lib.Dec.{eqb}
 use lib.ListN.{length, take}
 use Rattle.rules.specs.Lists.{has}
@@ -23,13 +24,11 @@ use Rattle.text.specs.Text.{written}
 use Rattle.layout.specs.Layout.{max_log, record_size, records_at}
 use Rattle.layout.specs.Tables.{version_in, setup_in}
 use Rattle.layout.specs.Log.{Sized, setup_bytes, record_bytes, log_bytes}
-use Rattle.logs.specs.declared.Opening.TheVariants.{Records}
 use Rattle.logs.specs.Opening.{opening_of}
 use Rattle.logs.specs.Reading.{whole, records_in, heards_in}
 use Rattle.logs.proofs.Openings.{opens}
 use Rattle.logs.proofs.Again.{log-again}
-use Rattle.writing.specs.declared.Answer.TheVariants.{Written}
-use Rattle.writing.specs.Writing.{told, Left, lacks_room, form_put, version_ranks, version_fits, setup_told, setup_put}
+use Rattle.writing.specs.Writing.{unrefused, Left, lacks_room, form_put, version_ranks, version_fits, setup_told, setup_put}
 use Rattle.writing.specs.Writing.{record_told, record_put, event_told, event_put}
 use Rattle.writing.proofs.Room.{item-number, item-same}
 use Rattle.rewriting.specs.Sequence.{log_put, events_put}
@@ -130,7 +129,7 @@ writer-writes v u es out e =
     (ap (λ (t : Left). t.used) same ∙ h.used, ap (λ (t : Left). t.bytes) same ∙ h.bytes)
 
 -- A log that is accepted is the bytes of the setup and of the records that are read of it, with or without a form.
-pub reader-reads : (l : List ℕ) → AllBytes l → (start : ℕ) → opening_of l ≡ Records start
+pub reader-reads : (l : List ℕ) → AllBytes l → (start : ℕ) → opening_of l ≡ Ok start
     → start + record_size (version_in l) * whole l start ≡ length l
     → log_bytes (version_in l) (setup_in l) (records_in l start) ≡ l
 reader-reads l bytes start o uncut = log-again l bytes start (opens l start o) uncut
@@ -153,25 +152,25 @@ events-are-read v n u es l h = h.events ∙ says-events v n es
 -- WRITTEN AGAIN
 
 -- where no record is answered 18, each has a form
-all_known : (u : rules.Setup) (s : State) (xs : List Heard) → NoneUnknown u s xs → last_answer xs ≡ Written
+all_known : (u : rules.Setup) (s : State) (xs : List Heard) → NoneUnknown u s xs → last_answer xs ≡ Ok tt
 unfolding entries_from
 all_known u s [] h = refl
 all_known u s (x ∷ xs) h = by-heard x h.0 (all_known u (step_of u s x) xs h.1)
   where
-    by-heard : (y : Heard) → not (eqb (answer_of u s y) unknown_record) ≡ true → last_answer xs ≡ Written
-        → last_answer (y ∷ xs) ≡ Written
+    by-heard : (y : Heard) → not (eqb (answer_of u s y) unknown_record) ≡ true → last_answer xs ≡ Ok tt
+        → last_answer (y ∷ xs) ≡ Ok tt
     by-heard (known e) q next = next
     by-heard reply_ready q next = next
     by-heard unknown q next = clash q refl
 
 module _ (l out : List ℕ) (bytes : AllBytes l) (fits : length l ≤ length out) (start : ℕ)
-    (o : opening_of l ≡ Records start) where
+    (o : opening_of l ≡ Ok start) where
   -- Writing what was read, in its own version, gives the same bytes, for every log that is accepted, to its end, and in
   -- which no record is answered 18.
   pub read-is-written : start + record_size (version_in l) * whole l start ≡ length l
       → NoneUnknown (setup_of (setup_in l)) fresh (heards_in l start)
       → log_put (version_in l) (setup_in l) (records_in l start) out
-      ≡ record { told = told Written; used = length l; bytes = written out 0 l }
+      ≡ record { told = unrefused; used = length l; bytes = written out 0 l }
   read-is-written uncut h =
       write-back-whole l out bytes fits start o uncut
       (all_known (setup_of (setup_in l)) fresh (heards_in l start) h)
