@@ -5,14 +5,15 @@ use mathlib.Core.Path.{◌≡◌, refl}
 use mathlib.Core.Bool.{true, false}
 use mathlib.Core.List.{List, [], ◌∷◌}
 use mathlib.Core.Option.{some, none}
+use Rattle.std.specs.Prelude.{Some, None}
 use Rattle.rules.specs.State.{idle, front, best, spent, tidying}
 use Rattle.calls.specs.Due.{form_in, due_in, replied_in}
 
 abbrev ks : List ℕ
 ks = 5 ∷ 9 ∷ 2 ∷ []
 
--- 0 is a deadline too; without one the number is not looked at
-form-cases : (form_in true 7 ≡ some 7) × (form_in true 0 ≡ some 0) × (form_in false 7 ≡ none)
+-- 0 is a deadline too
+form-cases : (form_in (Some 7) ≡ some 7) × (form_in (Some 0) ≡ some 0) × (form_in None ≡ none)
 form-cases = (refl, refl, refl)
 
 -- under deadlines one client's key, and no other; under priorities none

@@ -12,12 +12,11 @@ use borrow.Author.Tests.{eq-eqb, eqb-false, eqb-true, ne_eqb}
 use Rattle.rules.specs.Events.{Event, abort, invoke, ready, reply}
 use Rattle.rules.specs.Limits.{max_clients}
 use Rattle.rules.specs.Lists.{upd}
-use Rattle.rules.specs.Queues.{pick}
 use Rattle.rules.specs.Rank.{outranks}
 use Rattle.rules.specs.Setup.{real_time}
 use Rattle.rules.specs.State.{State}
 use Rattle.rules.specs.Step.{next}
-use Rattle.rules.proofs.Charge.{next-charge, pick-charge}
+use Rattle.rules.proofs.Charge.{next-charge}
 use Rattle.rules.proofs.Tests.{by-test}
 use Rattle.gate.specs.Shown.{setup_of, table}
 use Rattle.parts.specs.declared.Queues.{Queues}
@@ -35,12 +34,6 @@ module _ {v : Setup} {s : State} {q : Queues} {cs ks : List ℕ} (h : Holds v s 
 
   pub ready-charge : cs ≡ table max_clients (next (setup_of v) s ready).charge
   ready-charge = same-charge ready (λ c. omega (arith, next-charge (setup_of v) c (outranks (setup_of v) s) s ready))
-
-  -- nor does the pick after a reply change them
-  pub both-charge : cs ≡ table max_clients (pick (next (setup_of v) s reply)).charge
-  both-charge =
-      reply-charge ∙ table_same max_clients (next (setup_of v) s reply).charge _
-      (λ c b. sym (ap (λ (f : ℕ → ℕ). f c) (pick-charge (next (setup_of v) s reply))))
 
   pub abort-charge : (d : ℕ) → cs ≡ table max_clients (next (setup_of v) s (abort d)).charge
   abort-charge d =

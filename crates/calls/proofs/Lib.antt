@@ -3,3 +3,4 @@ pub mod Charges
 pub mod Keys
 pub mod Refusing
 pub mod Cases
+pub mod Replying

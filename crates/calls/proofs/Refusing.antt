@@ -1,7 +1,7 @@
 -- The answers to invoke, reply, ready and abort, from the tests that the code makes, in their order.
 -- Assumes nothing.
 use Prim.Native.Nat.{◌<◌, ◌≤◌, ℕ}
-use mathlib.Core.Bool.{Bool, false, true, ◌||◌}
+use mathlib.Core.Bool.{Bool, false, true, or-true}
 use mathlib.Core.Path.{◌≡◌}
 use mathlib.Core.Option.{Option}
 use native.Mathlib.Omega.{arith}
@@ -25,17 +25,17 @@ module _ (v : Setup) (s : State) where
   unfolding answer_by
   invoke-unfit c o f = rw f
 
-  module _ (c : ℕ) {n i : ℕ} (clients : n ≡ v.clients) (index : i ≡ c) where
-    pub invoke-unknown : (o : Option ℕ) → fit_form v.timed o ≡ true → n ≤ i
+  module _ (c : ℕ) {n : ℕ} (clients : n ≡ v.clients) where
+    pub invoke-unknown : (o : Option ℕ) → fit_form v.timed o ≡ true → n ≤ c
         → answer (setup_of v) s (invoke c o) ≡ no_client
     unfolding answer_by
     invoke-unknown o f b = rw (f, le-leb v.clients c (omega (arith, clients)))
 
-    pub abort-unknown : n ≤ i → answer (setup_of v) s (abort c) ≡ no_client
+    pub abort-unknown : n ≤ c → answer (setup_of v) s (abort c) ≡ no_client
     unfolding answer_by
     abort-unknown b = rw (le-leb v.clients c (omega (arith, clients)))
 
-    module _ (known : i < n) where
+    module _ (known : c < n) where
       known_is : leb v.clients c ≡ false
       known_is = lt-leb v.clients c (omega (arith, clients))
 
@@ -56,20 +56,19 @@ module _ (v : Setup) (s : State) where
         unfolding answer_by
         abort-effort t = rw (known_is, ← kind, t)
 
-        module _ (real : r ≡ true) {p : Bool} (served : p ≡ is_spent s.server c)
-            {w : Bool} (waiting : w ≡ waits (setup_of v) s c) where
-          pub abort-absent : w || p ≡ false → answer (setup_of v) s (abort c) ≡ not_waiting
+        module _ (real : r ≡ true) {p : Bool} (served : p ≡ is_spent s.server c) where
+          pub abort-spent : p ≡ true → answer (setup_of v) s (abort c) ≡ spent_already
           unfolding answer_by
-          abort-absent t = rw (known_is, ← kind, real, ← served, ← waiting, t)
+          abort-spent t = rw (known_is, ← kind, real, ← served, t, or-true (waits (setup_of v) s c))
 
-          module _ (there : w || p ≡ true) where
-            pub abort-spent : p ≡ true → answer (setup_of v) s (abort c) ≡ spent_already
+          module _ (unspent : p ≡ false) {w : Bool} (waiting : w ≡ waits (setup_of v) s c) where
+            pub abort-absent : w ≡ false → answer (setup_of v) s (abort c) ≡ not_waiting
             unfolding answer_by
-            abort-spent t = rw (known_is, ← kind, real, ← served, ← waiting, there, t)
+            abort-absent t = rw (known_is, ← kind, real, ← served, unspent, ← waiting, t)
 
-            pub abort-fine : p ≡ false → answer (setup_of v) s (abort c) ≡ accepted
+            pub abort-fine : w ≡ true → answer (setup_of v) s (abort c) ≡ accepted
             unfolding answer_by
-            abort-fine t = rw (known_is, ← kind, real, ← served, ← waiting, there, t)
+            abort-fine t = rw (known_is, ← kind, real, ← served, unspent, ← waiting, t)
 
   -- REPLY AND READY
 

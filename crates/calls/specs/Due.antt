@@ -1,12 +1,13 @@
 -- An invoke's form as the code has it, and what becomes of the keys where a wait begins or ends.
 -- Assumes nothing.
-use Rattle.std.specs.Prelude.{ℕ, Bool, cond, List, set}
+use Rattle.std.specs.Prelude.{ℕ, Bool, cond, List, set, Option as code, Some, None}
 use Rattle.std.proofs.Math.Option.{Option, some, none}
 use Rattle.rules.specs.State.{Server, idle, front, best, spent, tidying}
 
 -- a deadline, or none
-abbrev pub form_in : Bool → ℕ → Option ℕ
-form_in dated d = cond dated (some d) none
+abbrev pub form_in : code ℕ → Option ℕ
+form_in None = none
+form_in (Some d) = some d
 
 -- under deadlines the key of c is d; priorities stay
 abbrev pub due_in : Bool → ℕ → ℕ → List ℕ → List ℕ

@@ -6,24 +6,24 @@ ghost use Rattle.gate.specs.Shown.{server_of};
 ghost use Rattle.parts.specs.Shows.{ServerFits};
 ghost use Rattle.calls.specs.Due.{due_in, replied_in};
 
-use gate::{Client, Server};
+use gate::{Client, Server, Setup};
 
 // The deadline of c, where clients go by deadlines; priorities stay.
-pub fn due(keys: &mut [u32; 64], timed: bool, c: Client, deadline: u32)
+pub fn due(keys: &mut [u32; 64], setup: &Setup, c: Client, deadline: u32)
     requires { c.0 < max_clients }
-    ensures { keys.new ≡ due_in timed c.0 deadline keys.old }
+    ensures { keys.new ≡ due_in setup.now.timed c.0 deadline keys.old }
 {
-    if timed {
-        keys[rows::index(c)] = deadline;
+    if setup.timed {
+        keys[usize::from(c.0)] = deadline;
     }
 }
 
 // Of those in service only a front waits: its reply ends its wait.
-pub fn replied(keys: &mut [u32; 64], timed: bool, server: Server)
+pub fn replied(keys: &mut [u32; 64], setup: &Setup, server: Server)
     requires { ServerFits (server_of server) }
-    ensures { keys.new ≡ replied_in timed (server_of server) keys.old }
+    ensures { keys.new ≡ replied_in setup.now.timed (server_of server) keys.old }
 {
-    if serving::as_front(server) {
-        due(keys, timed, serving::served(server), 0);
+    if let Server::Front(c) = server {
+        due(keys, setup, c, 0);
     }
 }

@@ -9,12 +9,12 @@ ghost use Rattle.rules.specs.Rank.{outranks};
 ghost use Rattle.rules.specs.Events.{charged};
 ghost use Rattle.rules.specs.Sound.{Sound};
 ghost use Rattle.sets.specs.Sets.{set_of};
-ghost use Rattle.gate.specs.declared.Setup as given;
 ghost use Rattle.gate.specs.Shown.{setup_of, show_rooms};
 ghost use Rattle.parts.specs.Shows.{ShowsKeys, ShowsLines};
 ghost use Rattle.charging.specs.Charged.{waiting_in, overcharges_in, grown};
 
-use gate::{Client, Cluster, Gate, Line};
+use gate::{Client, Cluster, Gate, Line, Setup};
+use parts::Queues;
 
 // WHO WAITS
 
@@ -22,15 +22,12 @@ use gate::{Client, Cluster, Gate, Line};
 fn waiting_in(l: Line, room: u64) -> u64
     ensures { result ≡ waiting_in l.places room }
 {
-    let q = l.places;
     let mut s = room;
-    let mut i: usize = 0;
-    while i < Gate::MAX_SIZE {
-        if q[i] == places::UNUSED {
+    for x in l.places.iter() {
+        if *x == places::UNUSED {
             return s;
         }
-        s = sets::with(s, gate::wide(q[i]));
-        i += 1;
+        s = sets::with(s, usize::from(*x));
     }
     s
 }
@@ -38,26 +35,17 @@ fn waiting_in(l: Line, room: u64) -> u64
 // WHO IS CHARGED
 
 // The charged clients.
-pub fn charged(
-    lines: [Line; 8],
-    rooms: &[u64; 8],
-    sizes: &[u8; 8],
-    keys: &[u32; 64],
-    clusters: usize,
-) -> u64
-    requires { clusters ≤ max_clusters }
-    ensures { (v : given.Setup) (s : State) → sizes.now ≡ v.sizes → ShowsKeys v s keys.now
-        → clusters ≡ v.clusters → ShowsLines s.lines lines
-        → rooms.now ≡ show_rooms (setup_of v).cluster s.room → Sound (setup_of v) s
-        → result ≡ set_of max_clients (charged (setup_of v) (outranks (setup_of v) s) s) }
+pub fn charged(q: &Queues, setup: &Setup, keys: &[u32; 64]) -> u64
+    requires { setup.now.clusters ≤ max_clusters }
+    ensures { (s : State) → ShowsKeys setup.now s keys.now → ShowsLines s.lines q.now.lines
+        → q.now.rooms ≡ show_rooms (setup_of setup.now).cluster s.room → Sound (setup_of setup.now) s
+        → result ≡ set_of max_clients (charged (setup_of setup.now) (outranks (setup_of setup.now) s) s) }
 {
-    let mut s: u64 = 0;
-    let mut k: usize = 0;
-    while k < clusters {
-        let waiting = waiting_in(lines[k], rooms[k]);
-        let m = rows::size(sizes, Cluster(k));
-        s = sets::union(s, ranks::best_in(keys, waiting, m));
-        k += 1;
+    let mut s = 0;
+    for k in 0..usize::from(setup.clusters) {
+        let waiting = waiting_in(q.lines[k], q.rooms[k]);
+        let best = ranks::best_in(keys, waiting, rows::size(setup, Cluster(k)));
+        s = sets::union(s, best);
     }
     s
 }
@@ -68,7 +56,7 @@ pub fn charged(
 fn overcharged(charge: u32, n: u16) -> bool
     ensures { result ≡ ltb max_charge (charge + n) }
 {
-    Gate::MAX_CHARGE - (n as u32) < charge
+    Gate::MAX_CHARGE - u32::from(n) < charge
 }
 
 // Whether n units more would carry the charge of one of the clients in the set past the limit.
@@ -93,7 +81,7 @@ pub fn charge(charges: &mut [u32; 64], set: u64, n: u16)
     let mut left = set;
     while left != 0 {
         let c = sets::first(left);
-        charges[c] = charges[c] + (n as u32);
+        charges[c] += u32::from(n);
         left = sets::rest(left);
     }
 }
@@ -103,5 +91,5 @@ pub fn reset(charges: &mut [u32; 64], c: Client)
     requires { c.0 < max_clients }
     ensures { charges.new ≡ set charges.old c.0 0 }
 {
-    charges[rows::index(c)] = 0;
+    charges[usize::from(c.0)] = 0;
 }

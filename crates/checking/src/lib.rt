@@ -99,7 +99,7 @@ fn same_served(says: Served, s: Server) -> bool
 {
     match says {
         Served::Nobody => !serving::is_serving(s),
-        Served::By(c) => serving::serves(s, rows::index(c)),
+        Served::By(c) => serving::serves(s, c),
     }
 }
 

@@ -4,83 +4,61 @@
 ghost use Rattle.std.specs.Prelude.{◌≡◌, ◌<◌};
 ghost use Rattle.rules.specs.Limits.{max_clients};
 ghost use Rattle.rules.specs.Events as rules;
+ghost use Rattle.gate.specs.declared.Setup as given;
 ghost use Rattle.parts.specs.Shows.{Homes, Leaves};
 ghost use Rattle.entering.specs.Finds.{enters, Ready};
 
-use gate::Client;
+use gate::{Client, Setup};
 use parts::Queues;
 
 // Real-time: it joins the end of its line if there is room, else the waiting room. If it became front, it joins the
 // global queue, unless its cluster is blocked.
-fn arrived<'a>(q: Queues, homes: &'a [u8; 64], sizes: &'a [u8; 8], c: Client) -> Queues
-    requires { (c.0 < max_clients) × Homes homes.now }
-    ensures { Leaves (λ v s. (homes.now ≡ v.homes) × (sizes.now ≡ v.sizes) × Ready v s c.0)
+fn arrived(mut q: Queues, setup: &Setup, c: Client) -> Queues
+    requires { (c.0 < max_clients) × Homes setup.now.homes }
+    ensures { Leaves setup.now (λ s. Ready setup.now s c.0)
         (λ u s. rules.arrive u c.0 (s.lines (u.cluster c.0)) s) q result }
 {
-    let k = rows::home(homes, c);
-    let i = k.0;
-    let line = q.lines[i];
+    let k = rows::home(setup, c);
+    let line = q.lines[k.0];
     let used = rows::used(line);
-    let mut n = q;
-    if used < rows::size(sizes, k) {
-        let more = rows::longer(line, rows::byte(c));
-        n.lines[i] = more;
+    if used < rows::size(setup, k) {
+        q.lines[k.0] = rows::longer(line, rows::byte(c));
         if used == 0 {
-            return moves::queued(n, homes, k);
+            return moves::queued(q, setup, k);
         }
-        return n;
+        return q;
     }
-    let more = sets::with(q.rooms[i], rows::index(c));
-    n.rooms[i] = more;
-    n
+    q.rooms[k.0] = sets::with(q.rooms[k.0], usize::from(c.0));
+    q
 }
 
 // Best-effort: joins the background queue.
-fn behind(q: Queues, c: Client) -> Queues
+fn behind(mut q: Queues, c: Client) -> Queues
     requires { c.0 < max_clients }
-    ensures { Leaves (λ v s. Ready v s c.0) (λ u s. rules.behind c.0 s) q result }
+    ensures { (v : given.Setup) → Leaves v (λ s. Ready v s c.0) (λ u s. rules.behind c.0 s) q result }
 {
-    let mut b = q.background;
-    places::join(&mut b, rows::byte(c));
-    let mut n = q;
-    n.background = b;
-    n
+    places::join(&mut q.background, rows::byte(c));
+    q
 }
 
 // The one or the other by its kind.
-fn entered<'a>(
-    q: Queues,
-    kinds: &'a [u8; 64],
-    homes: &'a [u8; 64],
-    sizes: &'a [u8; 8],
-    c: Client,
-) -> Queues
-    requires { (c.0 < max_clients) × Homes homes.now }
-    ensures { Leaves (λ v s. (kinds.now ≡ v.kinds) × (homes.now ≡ v.homes)
-        × (sizes.now ≡ v.sizes) × Ready v s c.0) (λ u s. enters u c.0 s) q result }
+fn entered(q: Queues, setup: &Setup, c: Client) -> Queues
+    requires { (c.0 < max_clients) × Homes setup.now.homes }
+    ensures { Leaves setup.now (λ s. Ready setup.now s c.0) (λ u s. enters u c.0 s) q result }
 {
-    if rows::is_real_time(kinds, c) {
-        return arrived(q, homes, sizes, c);
+    if rows::is_real_time(setup, c) {
+        return arrived(q, setup, c);
     }
     behind(q, c)
 }
 
 // Invoke c. Last, if the server is idle, pick.
-pub fn invoked<'a>(
-    q: Queues,
-    kinds: &'a [u8; 64],
-    homes: &'a [u8; 64],
-    sizes: &'a [u8; 8],
-    c: Client,
-) -> Queues
-    requires { (c.0 < max_clients) × Homes homes.now }
-    ensures { Leaves (λ v s. (kinds.now ≡ v.kinds) × (homes.now ≡ v.homes)
-        × (sizes.now ≡ v.sizes) × Ready v s c.0) (λ u s. rules.invoked u c.0 s) q result }
+pub fn invoked(q: Queues, setup: &Setup, c: Client) -> Queues
+    requires { (c.0 < max_clients) × Homes setup.now.homes }
+    ensures { Leaves setup.now (λ s. Ready setup.now s c.0) (λ u s. rules.invoked u c.0 s) q result }
 {
-    let y = q.service;
-    let server = y.server;
-    let n = entered(q, kinds, homes, sizes, c);
-    if serving::is_idle(server) {
+    let n = entered(q, setup, c);
+    if serving::is_idle(q.service.server) {
         return moves::picked(n);
     }
     n

@@ -26,7 +26,6 @@ use Rattle.parts.specs.Shows.{Fine}
 use Rattle.soundness.specs.Clauses.{of_cluster, lines_sound}
 use Rattle.soundness.proofs.Facts.{OfCluster, lines-facts}
 use Rattle.soundness.proofs.Sets.{members}
-use Rattle.serving.specs.Service.{as_front, as_spent}
 use Rattle.standing.specs.Answers.{lines_in}
 use Rattle.standing.proofs.Once.{flip}
 use Rattle.fronts.specs.Answers.{firsts_of, queued_of}
@@ -120,12 +119,3 @@ module _ (v : Setup) (fine : Fine v) (ls : List Line) (sound : lines_sound (setu
       set_of-same max_clients _ _ (λ c l.
       rw (first-is c, ap (λ f. f (u.cluster d) c) (own_is v fine))
       (by-test (is_first c) (λ e. rw (first-own (u.cluster d) c e)) (λ e. rw e)))
-
--- neither a front nor a spent client is in service
-pub queued-else : (homes own : List ℕ) (x : Server) (fronts : ℕ) → as_front x ≡ false → as_spent x ≡ false
-    → queued_of homes own x fronts ≡ fronts
-queued-else homes own idle fronts e f = refl
-queued-else homes own (front c) fronts e f = clash refl e
-queued-else homes own (best c) fronts e f = refl
-queued-else homes own (spent c) fronts e f = clash refl f
-queued-else homes own tidying fronts e f = refl

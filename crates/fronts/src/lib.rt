@@ -31,16 +31,11 @@ pub fn queued(homes: &[u8; 64], own: [u64; 8], server: Server, fronts: u64) -> u
     requires { Homes homes.now }
     ensures { result ≡ queued_of homes.now own (server_of server) fronts }
 {
-    let c = rows::index(serving::served(server));
-    if serving::as_front(server) {
-        return sets::without(fronts, c);
+    match server {
+        Server::Front(c) => sets::without(fronts, usize::from(c.0)),
+        Server::Spent(c) => sets::less(fronts, own[rows::cluster_of(homes, usize::from(c.0)).0]),
+        _ => fronts,
     }
-    if !serving::as_spent(server) {
-        return fronts;
-    }
-    let k = rows::cluster_of(homes, c);
-    let i = k.0;
-    sets::less(fronts, own[i])
 }
 
 // The queue holds each of these once, and nobody else.
@@ -70,23 +65,15 @@ pub fn server_sound(
     requires { Homes homes.now }
     ensures { result ≡ server_fits clients homes.now rooms fronts stand units (server_of server) }
 {
-    if serving::is_idle(server) {
-        if units != 0 {
-            return false;
+    match server {
+        Server::Idle => units == 0 && stand == 0,
+        Server::Tidying => true,
+        Server::Front(c) => sets::member(fronts, usize::from(c.0)),
+        Server::Best(c) => sets::member(sets::less(clients.effort, stand), usize::from(c.0)),
+        Server::Spent(c) => {
+            let own = rows::cluster_of(homes, usize::from(c.0)).0;
+            let queued = sets::less(sets::less(clients.own[own], stand), rooms[own]);
+            sets::member(queued, usize::from(c.0))
         }
-        return stand == 0;
     }
-    if serving::is_tidying(server) {
-        return true;
-    }
-    let c = rows::index(serving::served(server));
-    if serving::as_front(server) {
-        return sets::member(fronts, c);
-    }
-    if serving::as_spent(server) {
-        let k = rows::cluster_of(homes, c);
-        let i = k.0;
-        return sets::member(sets::less(sets::less(clients.own[i], stand), rooms[i]), c);
-    }
-    sets::member(sets::less(clients.effort, stand), c)
 }

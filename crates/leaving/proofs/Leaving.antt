@@ -13,8 +13,7 @@ use Rattle.rules.specs.Lists.{heads, highest}
 use Rattle.rules.specs.Queues.{enter, in_room, queue, refill, without}
 use Rattle.rules.specs.Rank.{Rank, outranks}
 use Rattle.rules.specs.Setup as rules
-use Rattle.rules.specs.State.{Server, State, best, front, idle, is_front, spent, tidying}
-use Rattle.rules.proofs.Tests.{clash}
+use Rattle.rules.specs.State.{Server, State, is_front, spent}
 use Rattle.sets.specs.Sets.{without_of}
 use Rattle.places.specs.Places.{take_out_of}
 use Rattle.parts.specs.Parts.{put_global, put_line, put_room, put_server}
@@ -23,14 +22,13 @@ use Rattle.parts.specs.Shows.{Refills, ShowsQueues}
 use Rattle.gate.specs.declared.Client.{Client}
 use Rattle.gate.specs.declared.Line.{Line}
 use Rattle.parts.specs.declared.Queues.{Queues}
-use Rattle.gate.specs.declared.Server.TheVariants.{Spent, Tidying}
+use Rattle.gate.specs.declared.Server as code
+use Rattle.gate.specs.declared.Server.TheVariants.{Idle, Front, Best, Spent, Tidying}
 use Rattle.gate.specs.declared.Setup.{Setup}
 use Rattle.parts.proofs.Keys.{keys_kept}
 use Rattle.parts.proofs.Parts.{line_at, shows-global, shows-line, shows-room, shows-server, taken_out}
 use Rattle.rows.specs.Homes.{Home}
-use Rattle.serving.specs.Service.{as_front, as_spent, served_by}
 use Rattle.ranks.proofs.Ranks.{same_rank}
-use Rattle.serving.proofs.Service.{as-front, as-spent}
 use Rattle.leaving.specs.Finds.{Yields}
 
 -- a refill and the leaving before it keep the global queue
@@ -48,10 +46,9 @@ gone-global u rank c s =
     go (some d) = refl
 
 -- what a refill reads shows a state between too, with the same rooms and the same deadlines
-pub refills-kept : {v : Setup} {s t : State} {ms ks : List ℕ} → Refills v s ms ks → t.room ≡ s.room
-    → t.deadline ≡ s.deadline → Refills v t ms ks
+pub refills-kept : {v : Setup} {s t : State} {ks : List ℕ} → Refills v s ks → t.room ≡ s.room
+    → t.deadline ≡ s.deadline → Refills v t ks
 refills-kept h r e = record {
-  sizes = h.sizes;
   keys = keys_kept h.keys e;
   known = λ c q. h.known c (ap (λ f. f c) (sym r) ∙ q);
 }
@@ -123,15 +120,6 @@ module _ {v : Setup} (s : State) {r : Queues} (c : ℕ) {a : Bool} (room : a ≡
 
 -- THE END OF A REQUEST
 
--- who is in service, and as what, from what the code reads
-module _ {v : Setup} {s : State} {q : Queues} (h : ShowsQueues v s q) {c : ℕ}
-    (who : c ≡ served_by (server_of q.service.server)) where
-  pub served-front : as_front (server_of q.service.server) ≡ true → s.server ≡ front c
-  served-front t = rw who (sym h.service.server ∙ as-front (server_of q.service.server) t)
-
-  pub served-spent : as_spent (server_of q.service.server) ≡ true → s.server ≡ spent c
-  served-spent t = rw who (sym h.service.server ∙ as-spent (server_of q.service.server) t)
-
 pub ended_by : {v : Setup} {r : Queues} (s : State) (x : Server) → s.server ≡ x
     → ShowsQueues v (ended (setup_of v) (outranks (setup_of v) s) x s) r
     → ShowsQueues v (replied (setup_of v) (outranks (setup_of v) s) s) r
@@ -139,12 +127,13 @@ unfolding replied
 ended_by {v} {r} s x e z =
     subst (λ y. ShowsQueues v (ended (setup_of v) (outranks (setup_of v) s) y s) r) (sym e) z
 
--- a best-effort client is in service
-pub ended-freed : {v : Setup} {r : Queues} (s : State) (x : Server) → Yields x s.global → as_front x ≡ false
-    → as_spent x ≡ false → ShowsQueues v (freed s) r
-    → ShowsQueues v (ended (setup_of v) (outranks (setup_of v) s) x s) r
-ended-freed s idle e f g h = absurd e
-ended-freed s (front c) e f g h = clash refl f
-ended-freed s (best c) e f g h = h
-ended-freed s (spent c) e f g h = clash refl g
-ended-freed s tidying e f g h = absurd e
+-- neither a front nor a spent client is in service: a best-effort client is
+pub ended-freed : {v : Setup} {r : Queues} (s : State) (x : code.Server)
+    → Yields (server_of x) s.global → ((c : Client) → x ≡ Front c → ⊥) → ((c : Client) → x ≡ Spent c → ⊥)
+    → ShowsQueues v (freed s) r
+    → ShowsQueues v (ended (setup_of v) (outranks (setup_of v) s) (server_of x) s) r
+ended-freed s Idle e f g h = absurd e
+ended-freed s (Front c) e f g h = absurd (f c refl)
+ended-freed s (Best c) e f g h = h
+ended-freed s (Spent c) e f g h = absurd (g c refl)
+ended-freed s Tidying e f g h = absurd e

@@ -15,31 +15,20 @@ ghost use Rattle.gate.specs.Shown.{server_of};
 ghost use Rattle.parts.specs.Shows.{Homes, Refills, ServerFits, Leaves};
 ghost use Rattle.leaving.specs.Finds.{Turn, Yields};
 
-use gate::{Client, Server};
+use gate::{Client, Server, Setup};
 use parts::Queues;
 
 // LEAVING
 
 // c leaves its line, then refill.
-fn gone<'a>(
-    q: Queues,
-    homes: &'a [u8; 64],
-    sizes: &'a [u8; 8],
-    keys: &'a [u32; 64],
-    c: Client,
-) -> Queues
-    requires { (c.0 < max_clients) × Homes homes.now }
-    ensures { Leaves (λ v s. (homes.now ≡ v.homes)
-        × Refills v s sizes.now keys.now)
+fn gone(mut q: Queues, setup: &Setup, keys: &[u32; 64], c: Client) -> Queues
+    requires { (c.0 < max_clients) × Homes setup.now.homes }
+    ensures { Leaves setup.now (λ s. Refills setup.now s keys.now)
         (λ u s. rules.gone u (outranks u s) c.0 s) q result }
 {
-    let k = rows::home(homes, c);
-    let i = k.0;
-    let line = q.lines[i];
-    let rest = rows::shorter(line, rows::byte(c));
-    let mut n = q;
-    n.lines[i] = rest;
-    moves::refilled(n, sizes, keys, k)
+    let k = rows::home(setup, c);
+    q.lines[k.0] = rows::shorter(q.lines[k.0], rows::byte(c));
+    moves::refilled(q, setup, keys, k)
 }
 
 // REPLY
@@ -52,122 +41,79 @@ fn freed(q: Queues) -> Queues
 }
 
 // The request of a front ends: it leaves its line, then refill, and the next front joins the global queue.
-fn front_ended<'a>(
-    q: Queues,
-    homes: &'a [u8; 64],
-    sizes: &'a [u8; 8],
-    keys: &'a [u32; 64],
-    c: Client,
-) -> Queues
-    requires { (c.0 < max_clients) × Homes homes.now }
-    ensures { Leaves (λ v s. (homes.now ≡ v.homes)
-        × Refills v s sizes.now keys.now
-        × (length s.global < max_clusters)) (λ u s. rules.ended u (outranks u s) (front c.0) s) q result }
+fn front_ended(q: Queues, setup: &Setup, keys: &[u32; 64], c: Client) -> Queues
+    requires { (c.0 < max_clients) × Homes setup.now.homes }
+    ensures { Leaves setup.now (λ s. Refills setup.now s keys.now × (length s.global < max_clusters))
+        (λ u s. rules.ended u (outranks u s) (front c.0) s) q result }
 {
-    let k = rows::home(homes, c);
-    moves::queued(gone(freed(q), homes, sizes, keys, c), homes, k)
+    let k = rows::home(setup, c);
+    moves::queued(gone(freed(q), setup, keys, c), setup, k)
 }
 
 // The request of a spent client ends: its cluster stops being blocked, and the front there joins the global queue.
-fn spent_ended(q: Queues, homes: &[u8; 64], c: Client) -> Queues
-    requires { (c.0 < max_clients) × Homes homes.now }
-    ensures { Leaves (λ v s. (homes.now ≡ v.homes) × (length s.global < max_clusters))
+fn spent_ended(q: Queues, setup: &Setup, c: Client) -> Queues
+    requires { (c.0 < max_clients) × Homes setup.now.homes }
+    ensures { Leaves setup.now (λ s. length s.global < max_clusters)
         (λ u s. rules.ended u (outranks u s) (spent c.0) s) q result }
 {
-    let k = rows::home(homes, c);
+    let k = rows::home(setup, c);
     let free = freed(q);
-    moves::queued(free, homes, k)
+    moves::queued(free, setup, k)
 }
 
 // Reply: the served request ends, and nobody is picked yet.
-pub fn replied<'a>(
-    q: Queues,
-    homes: &'a [u8; 64],
-    sizes: &'a [u8; 8],
-    keys: &'a [u32; 64],
-) -> Queues
-    requires { ServerFits (server_of q.service.server) × Homes homes.now }
-    ensures { Leaves (λ v s. (homes.now ≡ v.homes)
-        × Refills v s sizes.now keys.now
-        × Yields s.server s.global) (λ u s. rules.replied u (outranks u s) s) q result }
+pub fn replied(q: Queues, setup: &Setup, keys: &[u32; 64]) -> Queues
+    requires { ServerFits (server_of q.service.server) × Homes setup.now.homes }
+    ensures { Leaves setup.now (λ s. Refills setup.now s keys.now × Yields s.server s.global)
+        (λ u s. rules.replied u (outranks u s) s) q result }
 {
-    let y = q.service;
-    let server = y.server;
-    let c = serving::served(server);
-    if serving::as_front(server) {
-        return front_ended(q, homes, sizes, keys, c);
+    match q.service.server {
+        Server::Front(c) => front_ended(q, setup, keys, c),
+        Server::Spent(c) => spent_ended(q, setup, c),
+        _ => freed(q),
     }
-    if serving::as_spent(server) {
-        return spent_ended(q, homes, c);
-    }
-    freed(q)
 }
 
 // ABORT
 
 // c leaves the global queue, and the others keep their order.
-fn unqueued(q: Queues, c: Client) -> Queues
+fn unqueued(mut q: Queues, c: Client) -> Queues
     requires { c.0 < max_clients }
     ensures { result ≡ put_global (take_out_of c.0 q.global) q }
 {
-    let mut fronts = q.global;
-    places::take_out(&mut fronts, rows::byte(c));
-    let mut n = q;
-    n.global = fronts;
-    n
+    places::take_out(&mut q.global, rows::byte(c));
+    q
 }
 
 // A front that is not in service leaves line and global queue, and the new front joins the end of that queue.
-fn front_aborted<'a>(
-    q: Queues,
-    homes: &'a [u8; 64],
-    sizes: &'a [u8; 8],
-    keys: &'a [u32; 64],
-    c: Client,
-) -> Queues
-    requires { (c.0 < max_clients) × Homes homes.now }
-    ensures { Leaves (λ v s. (homes.now ≡ v.homes)
-        × Refills v s sizes.now keys.now
-        × (length (remove c.0 s.global) < max_clusters))
+fn front_aborted(q: Queues, setup: &Setup, keys: &[u32; 64], c: Client) -> Queues
+    requires { (c.0 < max_clients) × Homes setup.now.homes }
+    ensures { Leaves setup.now (λ s. Refills setup.now s keys.now × (length (remove c.0 s.global) < max_clusters))
         (λ u s. queue u (u.cluster c.0) (rules.gone u (outranks u s) c.0 (rules.unqueue c.0 s))) q result }
 {
-    let k = rows::home(homes, c);
-    moves::queued(gone(unqueued(q, c), homes, sizes, keys, c), homes, k)
+    let k = rows::home(setup, c);
+    moves::queued(gone(unqueued(q, c), setup, keys, c), setup, k)
 }
 
 // Abort c. In the waiting room: leaves. Front in service: leaves the line, and stays in service as spent. Front and
 // not in service: leaves line and global queue. In the line but not front: leaves.
-pub fn aborted<'a>(
-    q: Queues,
-    homes: &'a [u8; 64],
-    sizes: &'a [u8; 8],
-    keys: &'a [u32; 64],
-    c: Client,
-) -> Queues
-    requires { (c.0 < max_clients) × Homes homes.now }
-    ensures { Leaves (λ v s. (homes.now ≡ v.homes)
-        × Refills v s sizes.now keys.now
-        × Turn v s c.0) (λ u s. rules.aborted u (outranks u s) c.0 s) q result }
+pub fn aborted(mut q: Queues, setup: &Setup, keys: &[u32; 64], c: Client) -> Queues
+    requires { (c.0 < max_clients) × Homes setup.now.homes }
+    ensures { Leaves setup.now (λ s. Refills setup.now s keys.now × Turn setup.now s c.0)
+        (λ u s. rules.aborted u (outranks u s) c.0 s) q result }
 {
-    let k = rows::home(homes, c);
-    let i = k.0;
-    let at = rows::index(c);
-    let room = q.rooms[i];
-    if sets::member(room, at) {
-        let mut n = q;
-        let rest = sets::without(room, at);
-        n.rooms[i] = rest;
-        return n;
+    let k = rows::home(setup, c);
+    let at = usize::from(c.0);
+    if sets::member(q.rooms[k.0], at) {
+        q.rooms[k.0] = sets::without(q.rooms[k.0], at);
+        return q;
     }
-    let y = q.service;
-    let server = y.server;
-    if serving::is_front(server, at) {
-        let n = moves::served(q, Server::Spent(c), y.units);
-        return gone(n, homes, sizes, keys, c);
+    if serving::is_front(q.service.server, c) {
+        let n = moves::served(q, Server::Spent(c), q.service.units);
+        return gone(n, setup, keys, c);
     }
-    let line = q.lines[i];
-    if rows::front(line) == rows::byte(c) {
-        return front_aborted(q, homes, sizes, keys, c);
+    if rows::front(q.lines[k.0]) == rows::byte(c) {
+        return front_aborted(q, setup, keys, c);
     }
-    gone(q, homes, sizes, keys, c)
+    gone(q, setup, keys, c)
 }

@@ -13,10 +13,7 @@ pub fn waits(line: Line, room: u64, c: Client) -> bool
     requires { c.0 < max_clients }
     ensures { result ≡ waits_in line.places room c.0 }
 {
-    if rows::line_holds(line, rows::byte(c)) {
-        return true;
-    }
-    sets::member(room, rows::index(c))
+    rows::line_holds(line, rows::byte(c)) || sets::member(room, usize::from(c.0))
 }
 
 // Whether c waits already, spent included.
@@ -24,11 +21,5 @@ pub fn present(line: Line, room: u64, background: &[u8; 64], server: Server, c: 
     requires { c.0 < max_clients }
     ensures { result ≡ present_in line.places room background.now (server_of server) c.0 }
 {
-    if waits(line, room, c) {
-        return true;
-    }
-    if places::stands(background, rows::byte(c)) {
-        return true;
-    }
-    serving::serves(server, rows::index(c))
+    waits(line, room, c) || places::stands(background, rows::byte(c)) || serving::serves(server, c)
 }

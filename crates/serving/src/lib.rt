@@ -1,141 +1,85 @@
 // Who is in service, and as what: every reading of the server.
 #![tactic(auto)]
 
-ghost use Rattle.std.specs.Prelude.{◌≡◌, cond, length};
+ghost use Rattle.std.specs.Prelude.{◌≡◌, length};
 ghost use Rattle.rules.specs.Limits.{max_clients};
-ghost use Rattle.rules.specs.State.{is_idle, is_tidying, is_serving, serves, is_front, is_spent, blocks};
-ghost use Rattle.gate.specs.declared.Setup as given;
+ghost use Rattle.rules.specs.State.{is_idle, is_tidying, is_serving, cap_of, serves, is_front, is_spent, blocks};
+ghost use Rattle.rules.specs.Replay.{in_service};
 ghost use Rattle.gate.specs.Shown.{setup_of, server_of};
-ghost use Rattle.serving.specs.Service.{as_front, as_spent, served_by};
+ghost use Rattle.serving.specs.Service.{number_in};
 
-use gate::{Client, Cluster, Server};
+use gate::{Client, Cluster, Server, Setup};
 
 pub fn is_idle(s: Server) -> bool
     ensures { result ≡ is_idle (server_of s) }
 {
-    match s {
-        Server::Idle => true,
-        Server::Front(_) => false,
-        Server::Best(_) => false,
-        Server::Spent(_) => false,
-        Server::Tidying => false,
-    }
+    matches!(s, Server::Idle)
 }
 
 pub fn is_tidying(s: Server) -> bool
     ensures { result ≡ is_tidying (server_of s) }
 {
-    match s {
-        Server::Idle => false,
-        Server::Front(_) => false,
-        Server::Best(_) => false,
-        Server::Spent(_) => false,
-        Server::Tidying => true,
-    }
+    matches!(s, Server::Tidying)
 }
 
 // Whether some client is in service.
 pub fn is_serving(s: Server) -> bool
     ensures { result ≡ is_serving (server_of s) }
 {
-    match s {
-        Server::Idle => false,
-        Server::Front(_) => true,
-        Server::Best(_) => true,
-        Server::Spent(_) => true,
-        Server::Tidying => false,
-    }
+    served(s).is_some()
 }
 
 // The cap of its units: W while it tidies, else L.
-pub fn cap_of(s: Server, cap: u16, tidy: u16) -> u16
-    ensures { result ≡ cond (is_tidying (server_of s)) tidy cap }
+pub fn cap_of(setup: &Setup, s: Server) -> u16
+    ensures { result ≡ cap_of (setup_of setup.now) (server_of s) }
 {
     match s {
-        Server::Idle => cap,
-        Server::Front(_) => cap,
-        Server::Best(_) => cap,
-        Server::Spent(_) => cap,
-        Server::Tidying => tidy,
+        Server::Tidying => setup.tidy,
+        _ => setup.cap,
     }
 }
 
-// As the front of its line.
-pub fn as_front(s: Server) -> bool
-    ensures { result ≡ as_front (server_of s) }
+// Who is in service, a spent client too.
+pub fn served(s: Server) -> Option<Client>
+    ensures { number_in result ≡ in_service (server_of s) }
 {
     match s {
-        Server::Idle => false,
-        Server::Front(_) => true,
-        Server::Best(_) => false,
-        Server::Spent(_) => false,
-        Server::Tidying => false,
-    }
-}
-
-// As a spent client.
-pub fn as_spent(s: Server) -> bool
-    ensures { result ≡ as_spent (server_of s) }
-{
-    match s {
-        Server::Idle => false,
-        Server::Front(_) => false,
-        Server::Best(_) => false,
-        Server::Spent(_) => true,
-        Server::Tidying => false,
-    }
-}
-
-// Who; 0 where nobody is.
-pub fn served(s: Server) -> Client
-    ensures { result.0 ≡ served_by (server_of s) }
-{
-    match s {
-        Server::Idle => Client(0),
-        Server::Front(c) => c,
-        Server::Best(c) => c,
-        Server::Spent(c) => c,
-        Server::Tidying => Client(0),
+        Server::Front(c) | Server::Best(c) | Server::Spent(c) => Some(c),
+        Server::Idle | Server::Tidying => None,
     }
 }
 
 // Whether c is in service.
-pub fn serves(s: Server, c: usize) -> bool
-    ensures { result ≡ serves (server_of s) c }
+pub fn serves(s: Server, c: Client) -> bool
+    ensures { result ≡ serves (server_of s) c.0 }
 {
-    if !is_serving(s) {
-        return false;
+    match served(s) {
+        Some(d) => d.0 == c.0,
+        None => false,
     }
-    rows::index(served(s)) == c
 }
 
 // Whether c is in service as the front of its line.
-pub fn is_front(s: Server, c: usize) -> bool
-    ensures { result ≡ is_front (server_of s) c }
+pub fn is_front(s: Server, c: Client) -> bool
+    ensures { result ≡ is_front (server_of s) c.0 }
 {
-    if !as_front(s) {
-        return false;
-    }
-    rows::index(served(s)) == c
+    matches!(s, Server::Front(d) if d.0 == c.0)
 }
 
 // Whether c is in service as a spent client.
-pub fn is_spent(s: Server, c: usize) -> bool
-    ensures { result ≡ is_spent (server_of s) c }
+pub fn is_spent(s: Server, c: Client) -> bool
+    ensures { result ≡ is_spent (server_of s) c.0 }
 {
-    if !as_spent(s) {
-        return false;
-    }
-    rows::index(served(s)) == c
+    matches!(s, Server::Spent(d) if d.0 == c.0)
 }
 
 // A cluster is blocked exactly while a spent client of that cluster is in service.
-pub fn is_blocked(homes: &[u8; 64], s: Server, k: Cluster) -> bool
-    requires { length homes.now ≡ max_clients }
-    ensures { (v : given.Setup) → homes.now ≡ v.homes → result ≡ blocks (setup_of v) (server_of s) k.0 }
+pub fn is_blocked(setup: &Setup, s: Server, k: Cluster) -> bool
+    requires { length setup.now.homes ≡ max_clients }
+    ensures { result ≡ blocks (setup_of setup.now) (server_of s) k.0 }
 {
-    if !as_spent(s) {
-        return false;
+    match s {
+        Server::Spent(c) => rows::cluster_of(&setup.homes, usize::from(c.0)).0 == k.0,
+        _ => false,
     }
-    rows::cluster_of(homes, rows::index(served(s))).0 == k.0
 }

@@ -117,7 +117,7 @@ pub fn sound(g: Gate) -> bool
     if !fronts::server_sound(clients, &s.homes, rooms, first, stand, server, g.units) {
         return false;
     }
-    let cap = serving::cap_of(server, s.cap, s.tidy);
+    let cap = serving::cap_of(&s, server);
     if g.units > (cap as u32) {
         return false;
     }

@@ -1,6 +1,6 @@
 -- A step of a gate: the number that it answers, and the gate after it.
 -- Assumes nothing.
-use Rattle.std.specs.Prelude.{ℕ, ◌≤◌, Bool, cond, List, ◌≡◌}
+use Rattle.std.specs.Prelude.{ℕ, ◌≤◌, cond}
 use Rattle.rules.specs.Limits.{max_clients, max_clusters}
 use Rattle.rules.specs.Refusals.{unsound}
 use Rattle.rules.specs.Records.{Heard, answer_of, step_of}
@@ -36,19 +36,8 @@ stepped g x = cond (sound_of g) (ruled g x) (record { number = unsound; gate = g
 -- ON PARTS
 
 -- what the code asks of the parts, so that every index is in its range
-pub record Ranged (k n : ℕ) (hs : List ℕ) (q : Queues) : Type 0 where
-  pub clusters : k ≤ max_clusters
-  pub clients : n ≤ max_clients
-  pub homes : Homes hs
+pub record Ranged (v : Setup) (q : Queues) : Type 0 where
+  pub clusters : v.clusters ≤ max_clusters
+  pub clients : v.clients ≤ max_clients
+  pub homes : Homes v.homes
   pub server : ServerFits (server_of q.service.server)
-
--- K, N, L, W, the kind of ranks and the columns of the table that are handed over are those of the setup v
-pub record Given (k n l w : ℕ) (t : Bool) (ms ts hs : List ℕ) (v : Setup) : Type 0 where
-  pub clusters : k ≡ v.clusters
-  pub clients : n ≡ v.clients
-  pub cap : l ≡ v.cap
-  pub tidy : w ≡ v.tidy
-  pub timed : t ≡ v.timed
-  pub sizes : ms ≡ v.sizes
-  pub kinds : ts ≡ v.kinds
-  pub homes : hs ≡ v.homes

@@ -8,12 +8,10 @@ ghost use Rattle.gate.specs.Heard.{event_in, heard_in};
 ghost use Rattle.parts.specs.Parts.{gate_of};
 ghost use Rattle.soundness.specs.Clauses.{sound_of};
 ghost use Rattle.answers.specs.Answers.{Hearing};
-ghost use Rattle.step.specs.Stepped.{told_in, stepped, Ranged, Given};
+ghost use Rattle.step.specs.Stepped.{told_in, stepped, Ranged};
 
 use answers::{Answer, Outcome};
-use gate::{
-    Client, Event, Gate, Heard, NEWEST_VERSION, Setup, argument, deadline, heard_in, is_dated,
-};
+use gate::{Event, Gate, Heard, NEWEST_VERSION, Record, Setup, heard_in};
 use parts::Queues;
 
 // The answer, and the gate after.
@@ -26,70 +24,40 @@ pub struct Answered {
 // THE INNER DOOR
 
 // An event on the parts of a sound gate.
-pub fn sound_step<'a>(
+pub fn sound_step(
     q: Queues,
-    clusters: u8,
-    clients: u8,
-    cap: u16,
-    tidy: u16,
-    timed: bool,
-    sizes: &'a [u8; 8],
-    kinds: &'a [u8; 64],
-    homes: &'a [u8; 64],
+    setup: &Setup,
     charges: &mut [u32; 64],
     keys: &mut [u32; 64],
     e: Event,
 ) -> Outcome
-    requires { Ranged clusters clients homes.now q }
-    ensures { Hearing (Given clusters clients cap tidy timed sizes.now kinds.now homes.now)
-        (known (event_in e)) q charges.old keys.old result charges.new keys.new }
+    requires { Ranged setup.now q }
+    ensures { Hearing setup.now (known (event_in e)) q charges.old keys.old result charges.new keys.new }
 {
-    let n = gate::wide(clients);
     match e {
-        Event::Run(t) => running::run(q, sizes, keys, gate::wide(clusters), cap, tidy, charges, t),
-        Event::Reply => calls::reply(q, homes, sizes, timed, keys),
-        Event::Abort(c) => calls::abort(q, kinds, homes, sizes, n, timed, keys, c),
+        Event::Invoke(c) => calls::invoke(q, setup, charges, keys, c, None),
+        Event::InvokeBy(c, d) => calls::invoke(q, setup, charges, keys, c, Some(d)),
+        Event::Run(n) => running::run(q, setup, keys, charges, n),
+        Event::Reply => calls::reply(q, setup, keys),
+        Event::Abort(c) => calls::abort(q, setup, keys, c),
         Event::Ready => calls::ready(q),
-        _ => calls::invoke(
-            q,
-            kinds,
-            homes,
-            sizes,
-            n,
-            timed,
-            charges,
-            keys,
-            Client(argument(e)),
-            is_dated(e),
-            deadline(e),
-        ),
     }
 }
 
 // What a record says, on the parts of a sound gate.
-pub fn sound_record<'a>(
+pub fn sound_record(
     q: Queues,
-    clusters: u8,
-    clients: u8,
-    cap: u16,
-    tidy: u16,
-    timed: bool,
-    sizes: &'a [u8; 8],
-    kinds: &'a [u8; 64],
-    homes: &'a [u8; 64],
+    setup: &Setup,
     charges: &mut [u32; 64],
     keys: &mut [u32; 64],
     h: Heard,
 ) -> Outcome
-    requires { Ranged clusters clients homes.now q }
-    ensures { Hearing (Given clusters clients cap tidy timed sizes.now kinds.now homes.now)
-        (heard_in h) q charges.old keys.old result charges.new keys.new }
+    requires { Ranged setup.now q }
+    ensures { Hearing setup.now (heard_in h) q charges.old keys.old result charges.new keys.new }
 {
     match h {
-        Heard::Known(e) => sound_step(
-            q, clusters, clients, cap, tidy, timed, sizes, kinds, homes, charges, keys, e,
-        ),
-        Heard::ReplyReady => calls::reply_ready(q, homes, sizes, timed, keys),
+        Heard::Known(e) => sound_step(q, setup, charges, keys, e),
+        Heard::ReplyReady => calls::reply_ready(q, setup, keys),
         Heard::Unknown => Outcome {
             answer: Answer::Unknown,
             queues: q,
@@ -101,27 +69,19 @@ pub fn sound_record<'a>(
 fn joined_record(
     s: Setup,
     q: Queues,
-    charges: [u32; 64],
+    mut charges: [u32; 64],
     deadlines: [u32; 64],
     h: Heard,
 ) -> Answered
     requires { sound_of (gate_of s q charges deadlines) ≡ true }
     ensures { told_in result ≡ stepped (gate_of s q charges deadlines) (heard_in h) }
 {
-    let mut after = charges;
-    let priorities = s.priorities;
-    let mut keys = parts::keys_of(s.timed, priorities, deadlines);
-    let r = sound_record(
-        q, s.clusters, s.clients, s.cap, s.tidy, s.timed, &s.sizes, &s.kinds, &s.homes, &mut after,
-        &mut keys, h,
-    );
-    let answer = r.answer;
-    let queues = r.queues;
+    let mut keys = parts::keys_of(s.timed, s.priorities, deadlines);
+    let r = sound_record(q, &s, &mut charges, &mut keys, h);
     let due = parts::deadlines_of(s.timed, keys);
-    let next = parts::gate_of(s, queues, after, due);
     Answered {
-        answer: answer,
-        gate: next,
+        answer: r.answer,
+        gate: parts::gate_of(s, r.queues, charges, due),
     }
 }
 
@@ -130,10 +90,7 @@ pub fn sound_heard(g: Gate, h: Heard) -> Answered
     requires { sound_of g ≡ true }
     ensures { told_in result ≡ stepped g (heard_in h) }
 {
-    let s = g.setup;
-    let charges = g.charges;
-    let deadlines = g.deadlines;
-    joined_record(s, parts::queues_of(g), charges, deadlines, h)
+    joined_record(g.setup, parts::queues_of(g), g.charges, g.deadlines, h)
 }
 
 // THE PUBLIC DOOR
@@ -166,9 +123,10 @@ pub fn step_record(g: Gate, code: u8, argument: u16, deadline: u32) -> Answered
       deadline = deadline;
     })) }
 {
-    let s = g.setup;
-    step_heard(
-        g,
-        heard_in(NEWEST_VERSION, s.timed, code, argument, deadline),
-    )
+    let record = Record {
+        code,
+        argument,
+        deadline,
+    };
+    step_heard(g, heard_in(NEWEST_VERSION, g.setup.timed, record))
 }

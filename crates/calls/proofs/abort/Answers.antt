@@ -6,6 +6,7 @@ use native.Mathlib.Omega.{arith}
 use Rattle.leaving.proofs.Found.{refills, turn}
 use Rattle.presence.proofs.Here.{waits-is}
 use Rattle.rules.specs.Events.{abort}
+use Rattle.rules.specs.Limits.{max_clients}
 use Rattle.rules.specs.Records.{known}
 use Rattle.rules.specs.State.{is_spent}
 use Rattle.rules.specs.Step.{moved_by}
@@ -16,63 +17,52 @@ use Rattle.calls.proofs.Keys.{abort-keys}
 use Rattle.calls.proofs.Refusing.{abort-absent, abort-effort, abort-fine, abort-spent, abort-unknown}
 use Rattle.calls.proofs.abort.Goals as goal
 
-pub returns-then-clients-index : goal.returns-then-clients-index
-returns-then-clients-index c =
+pub returns-then-from-c : goal.returns-then-from-c
+returns-then-from-c c =
     let d = c.args.c.0 in
-    λ cs v s e h.
-    refuses h (known (abort d)) NoClient (abort-unknown v s d e.3 c.index.ensures c.if-clients-index.true)
+    λ cs s h.
+    refuses h (known (abort d)) NoClient (abort-unknown c.args.setup.now s d c.from.ensures c.if-from-c.true)
     (λ z. omega arith)
 
 pub returns-then-not-is_real_time : goal.returns-then-not-is_real_time
 returns-then-not-is_real_time c =
     let d = c.args.c.0 in
-    λ cs v s e h.
+    λ cs s h.
     refuses h (known (abort d)) BestEffort
-    (abort-effort v s d e.3 c.index.ensures c.if-clients-index.false
-    (rw e.0 at c.is_real_time.ensures) (c.if-not-is_real_time.true))
+    (abort-effort c.args.setup.now s d c.from.ensures c.if-from-c.false c.is_real_time.ensures
+    c.if-not-is_real_time.true)
     (λ z. omega arith)
 
-pub returns-then-not-waits-spent : goal.returns-then-not-waits-spent
-returns-then-not-waits-spent c =
+pub returns-then-is_spent : goal.returns-then-is_spent
+returns-then-is_spent c =
     let d = c.args.c.0 in
-    λ cs v s e h.
-    refuses h (known (abort d)) NotWaiting
-    (abort-absent v s d e.3 c.index.ensures c.if-clients-index.false
-    (rw e.0 at c.is_real_time.ensures)
-    (c.if-not-is_real_time.false)
-    (rw c.index-2.ensures at c.is_spent-spent.ensures
-    ∙ ap (λ x. is_spent x d) h.queues.service.server)
-    (c.waits-waits.ensures ∙ waits-is h.queues (rw e.1 at c.home-k.ensures) _ _)
-    (c.if-not-waits-spent.true))
-    (λ z. omega arith)
-
-pub returns-then-spent : goal.returns-then-spent
-returns-then-spent c =
-    let d = c.args.c.0 in
-    λ cs v s e h.
+    λ cs s h.
     refuses h (known (abort d)) SpentAlready
-    (abort-spent v s d e.3 c.index.ensures c.if-clients-index.false
-    (rw e.0 at c.is_real_time.ensures) (c.if-not-is_real_time.false)
-    (rw c.index-2.ensures at c.is_spent-spent.ensures ∙ ap (λ x. is_spent x d)
-    h.queues.service.server)
-    (c.waits-waits.ensures ∙ waits-is h.queues
-    (rw e.1 at c.home-k.ensures) _ _) (c.if-not-waits-spent.false) c.if-spent.true)
+    (abort-spent c.args.setup.now s d c.from.ensures c.if-from-c.false c.is_real_time.ensures
+    c.if-not-is_real_time.false (c.is_spent.ensures ∙ ap (λ x. is_spent x d) h.queues.service.server)
+    c.if-is_spent.true)
+    (λ z. omega arith)
+
+pub returns-then-not-waits : goal.returns-then-not-waits
+returns-then-not-waits c =
+    let d = c.args.c.0 in
+    λ cs s h.
+    refuses h (known (abort d)) NotWaiting
+    (abort-absent c.args.setup.now s d c.from.ensures c.if-from-c.false c.is_real_time.ensures
+    c.if-not-is_real_time.false (c.is_spent.ensures ∙ ap (λ x. is_spent x d) h.queues.service.server)
+    c.if-is_spent.false (c.waits.ensures ∙ waits-is h.queues c.home-k.ensures _ _) c.if-not-waits.true)
     (λ z. omega arith)
 
 pub returns : goal.returns
 unfolding moved_by
 returns c =
     let d = c.args.c.0 in
-    let low : d < 64 =
-    omega (arith, c.index.ensures, c.requires) in
-    λ cs v s e h.
-    let waiting = waits-is h.queues (rw e.1 at c.home-k.ensures) _ _ in
+    let v = c.args.setup.now in
+    let low : d < max_clients = omega (arith, c.from.ensures, c.requires) in
+    λ cs s h.
     accepts (abort d)
-    (abort-fine v s d e.3 c.index.ensures c.if-clients-index.false
-    (rw e.0 at c.is_real_time.ensures) (c.if-not-is_real_time.false)
-    (rw c.index-2.ensures at c.is_spent-spent.ensures ∙ ap (λ x. is_spent x d) h.queues.service.server)
-    (c.waits-waits.ensures ∙ waiting) (c.if-not-waits-spent.false)
-    c.if-spent.false)
-    (c.aborted-n.ensures v s (fine h)
-    (e.1, refills v s h.sound e.2 h.keys, turn v s h.sound d) h.queues)
-    (abort-charge h d) (abort-keys h.keys e.4 d low c.due.ensures)
+    (abort-fine v s d c.from.ensures c.if-from-c.false c.is_real_time.ensures
+    c.if-not-is_real_time.false (c.is_spent.ensures ∙ ap (λ x. is_spent x d) h.queues.service.server)
+    c.if-is_spent.false (c.waits.ensures ∙ waits-is h.queues c.home-k.ensures _ _) c.if-not-waits.false)
+    (c.aborted-n.ensures s (fine h) (refills v s h.sound h.keys, turn v s h.sound d) h.queues)
+    (abort-charge h d) (abort-keys h.keys d low c.due.ensures)

@@ -53,7 +53,8 @@ loop-left-preserved c =
     let w : c.rest-left.result ≡ without_of l.left x = c.rest-left.ensures.0 ∙ ap (without_of l.left) (sym f.0) in (
       l.invariant.0,
       rw w (λ d b g. l.invariant.1 d b (still-in l.left x d b g)),
-      ap (λ y. set l.charges x (y + a.n)) e ∙ ap (λ y. set y x (get_or cs x 0 + a.n)) l.invariant.2
+      ap (λ m. set l.charges x (get_or l.charges x 0 + m)) c.from.ensures
+          ∙ ap (λ y. set l.charges x (y + a.n)) e ∙ ap (λ y. set y x (get_or cs x 0 + a.n)) l.invariant.2
           ∙ paid-next cs a.set a.n l.left x f.2 (omega arith) in-s
           ∙ ap (λ y. table (length cs) (paid cs a.set a.n y)) (sym w),
     )

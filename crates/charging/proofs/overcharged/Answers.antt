@@ -6,4 +6,4 @@ use Rattle.charging.proofs.Growing.{past_is}
 use Rattle.charging.proofs.overcharged.Goals as goal
 
 pub returns : goal.returns
-returns c = past_is max_charge c.args.charge c.args.n (omega arith)
+returns c = rw c.from.ensures (past_is max_charge c.args.charge c.args.n (omega arith))

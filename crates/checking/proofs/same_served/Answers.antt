@@ -2,7 +2,6 @@
 -- Assumes nothing.
 use mathlib.Core.Path.{sym, ap, ◌∙◌}
 use mathlib.Core.Bool.{not}
-use Rattle.rules.specs.State.{serves}
 use Rattle.gate.specs.Shown.{server_of}
 use Rattle.checking.proofs.Same.{nobody-served, client-served}
 use Rattle.checking.proofs.same_served.Goals as goal
@@ -17,4 +16,4 @@ returns-in-By c =
     let a = c.args in
     let v = server_of a.s in
     rw c.in-By.is
-    (c.serves.ensures ∙ ap (serves v) c.index.ensures ∙ sym (client-served v _))
+    (c.serves.ensures ∙ sym (client-served v _))

@@ -6,13 +6,13 @@ use Rattle.moves.proofs.picked.Goals as goal
 pub returns-then-x : goal.returns-then-x
 returns-then-x c =
     λ v s fine e h.
-    rw (c.served.ensures, c.client_in.ensures, c.close_up.ensures)
+    rw (c.served.ensures, c.from.ensures, c.close_up.ensures)
     (pick-front h c.if-x.true)
 
 pub returns-then-y : goal.returns-then-y
 returns-then-y c =
     λ v s fine e h.
-    rw (c.served-then-y.ensures, c.client_in-then-y.ensures, c.close_up-then-y.ensures)
+    rw (c.served-then-y.ensures, c.from-then-y.ensures, c.close_up-then-y.ensures)
     (pick-best h c.if-x.false
     c.if-y.true)
 

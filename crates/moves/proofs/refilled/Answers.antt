@@ -7,24 +7,19 @@ use Rattle.moves.proofs.refilled.Goals as goal
 pub returns-then-room-eq0 : goal.returns-then-room-eq0
 returns-then-room-eq0 c =
     let k = c.args.k.0 in
-    λ v s fine e h. refill-empty fine h k (omega arith) c.if-room-eq0.true
+    λ s fine e h. refill-empty fine h k (omega arith) c.if-room-eq0.true
 
 pub returns-then-size-used : goal.returns-then-size-used
 returns-then-size-used c =
     let k = c.args.k.0 in
-    λ v s fine e h.
-    refill-full fine h k (omega arith) _ (rw e.sizes at c.size.ensures)
-    c.used.ensures c.if-size-used.true
-
-pub highest_in-c-requires : goal.highest_in-c-requires
-highest_in-c-requires c = omega arith
+    λ s fine e h. refill-full fine h k (omega arith) _ c.size.ensures c.used.ensures c.if-size-used.true
 
 pub returns : goal.returns
 returns c =
     let h-in = c.highest_in-c in
     let k = c.args.k.0 in
-    λ v s fine e h.
-    rw (c.without-rest.ensures, c.longer-more.ensures, c.narrow.ensures)
-    (refill-moves fine h k (omega arith) _ (rw e.sizes at c.size.ensures)
+    λ s fine e h.
+    rw (c.without.ensures, c.longer.ensures)
+    (refill-moves fine h k (omega arith) _ c.size.ensures
     c.used.ensures c.if-size-used.false e.known _ h-in.result h-in.ensures.1 e.keys
     h-in.ensures.0)

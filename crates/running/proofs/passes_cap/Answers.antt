@@ -15,4 +15,4 @@ returns-then-cap-n c =
 pub returns : goal.returns
 returns c =
     let a = c.args in
-    past_is a.cap a.units a.n (omega arith)
+    rw c.from.ensures (past_is a.cap a.units a.n (omega arith))

@@ -1,2 +1,0 @@
--- The tests of the one in service.
-pub mod Service
