@@ -27,21 +27,21 @@ pub struct Queues {
 pub fn queues_of(g: Gate) -> Queues
     ensures { result ≡ queues_of g }
 {
-    let lines = g.lines;
-    let rooms = g.rooms;
-    let global = g.global;
-    let background = g.background;
-    let server = g.server;
-    let service = Service {
-        server: server,
-        units: g.units,
-    };
+    let Gate {
+        lines,
+        rooms,
+        global,
+        background,
+        server,
+        units,
+        ..
+    } = g;
     Queues {
-        lines: lines,
-        rooms: rooms,
-        global: global,
-        background: background,
-        service: service,
+        lines,
+        rooms,
+        global,
+        background,
+        service: Service { server, units },
     }
 }
 
@@ -49,22 +49,23 @@ pub fn queues_of(g: Gate) -> Queues
 pub fn gate_of(setup: Setup, q: Queues, charges: [u32; 64], deadlines: [u32; 64]) -> Gate
     ensures { result ≡ gate_of setup q charges deadlines }
 {
-    let lines = q.lines;
-    let rooms = q.rooms;
-    let global = q.global;
-    let background = q.background;
-    let service = q.service;
-    let server = service.server;
+    let Queues {
+        lines,
+        rooms,
+        global,
+        background,
+        service,
+    } = q;
     Gate {
-        setup: setup,
-        lines: lines,
-        rooms: rooms,
-        global: global,
-        background: background,
-        server: server,
+        setup,
+        lines,
+        rooms,
+        global,
+        background,
+        server: service.server,
         units: service.units,
-        charges: charges,
-        deadlines: deadlines,
+        charges,
+        deadlines,
     }
 }
 
@@ -78,13 +79,7 @@ pub fn keys_of(timed: bool, priorities: [u16; 64], deadlines: [u32; 64]) -> [u32
     if timed {
         return deadlines;
     }
-    let mut keys = [0u32; 64];
-    let mut c: usize = 0;
-    while c < 64 {
-        keys[c] = priorities[c] as u32;
-        c += 1;
-    }
-    keys
+    priorities.map(|p| u32::from(p))
 }
 
 // The deadlines that such a column holds: under priorities all are 0.
