@@ -2,6 +2,7 @@
 -- Assumes nothing.
 use Prim.Native.Nat.{ℕ, zero, suc, ◌+◌, ◌-◌, ◌*◌, ◌≤◌, ◌<◌}
 use native.Mathlib.Omega.{arith}
+use Rattle.std.specs.Prelude.{Ok}
 use mathlib.Core.Path.{◌≡◌, refl, sym, ap, ap₂, ◌∙◌}
 use mathlib.Core.Bool.{true}
 use mathlib.Core.List.{List, [], ◌++◌, append_assoc, append-nil}
@@ -18,7 +19,6 @@ use Rattle.layout.specs.Bytes.{byte_at}
 use Rattle.layout.specs.Layout.{max_log, mark, version_at, tables_at, size_at, row_size, record_size}
 use Rattle.layout.specs.Tables.{version_in, clusters_in, clients_in}
 use Rattle.layout.proofs.Again.{bytes-from}
-use Rattle.logs.specs.declared.Opening.TheVariants.{Records}
 use Rattle.logs.specs.Reading.{whole, whole_end, whole_of}
 use Rattle.logs.proofs.Openings.{Opens, opens}
 use Rattle.logs.proofs.Wholes.{whole_is}
@@ -226,7 +226,7 @@ module _ (l : List ℕ) (small : (i : ℕ) → byte_at l i < 256) (short : lengt
         ∙ ap log (take_all (whole_end l start) l (omega (arith, end)))
 
 -- For every log of bytes that is not refused, in each version, records answered 18 included.
-pub says-again : (l : List ℕ) → ((i : ℕ) → byte_at l i < 256) → (start : ℕ) → whole_of l ≡ Records start
+pub says-again : (l : List ℕ) → ((i : ℕ) → byte_at l i < 256) → (start : ℕ) → whole_of l ≡ Ok start
     → says_of (lines_of l start) ≡ log l
 says-again l small start e =
     let w = whole_is l start e in

@@ -2,6 +2,7 @@
 -- Assumes nothing.
 use Prim.Native.Nat.{ℕ, ◌+◌, ◌-◌, ◌*◌, ◌/◌, ◌≤◌}
 use native.Mathlib.Omega.{arith}
+use Rattle.std.specs.Prelude.{Ok}
 use mathlib.Core.Path.{◌≡◌, refl, sym, ap, ap₂, ◌∙◌, subst}
 use mathlib.Core.Bool.{Bool, true, false, not, ◌||◌, cond}
 use mathlib.Core.List.{List, [], ◌∷◌, ◌++◌, append_assoc, append-nil}
@@ -14,7 +15,6 @@ use Rattle.lines.specs.Lines.{fit_in}
 use Rattle.lines.specs.Input.{read_from}
 use Rattle.layout.specs.Layout.{max_log, mark, carries_ranks, record_size, records_at}
 use Rattle.layout.specs.Tables.{version_in, clusters_in, clients_in}
-use Rattle.logs.specs.declared.Opening.TheVariants.{Records}
 use Rattle.logs.specs.Reading.{whole, whole_of}
 use Rattle.logs.proofs.Openings.{opens}
 use Rattle.logs.proofs.Wholes.{whole_is}
@@ -159,7 +159,7 @@ items_shown : (st : Stage) (t : Import) (text : List ℕ) → st ≡ Items → S
 items_shown st t text e shows = subst (λ (x : Stage). ShowsIn x t.sheet t.bytes text) e shows
 
 -- For every text that is accepted.
-pub lines-again : (s l : List ℕ) (start : ℕ) → says_of s ≡ log l → whole_of l ≡ Records start → lines_of l start ≡ s
+pub lines-again : (s l : List ℕ) (start : ℕ) → says_of s ≡ log l → whole_of l ≡ Ok start → lines_of l start ≡ s
 unfolding says_of lines_of
 lines-again s l start e w =
     let r = read_from taken none_read [] s in
