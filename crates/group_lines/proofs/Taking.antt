@@ -7,20 +7,11 @@ use mathlib.Core.List.{List, []}
 use mathlib.Core.Option.{some, none}
 use Rattle.text.specs.Text.{next_count}
 use Rattle.group_rules.specs.declared.Group.{Group}
-use Rattle.group_rules.specs.Events.{Event, said, answer_of, step_of}
-use Rattle.group_says.specs.declared.Said.{Said}
-use Rattle.group_says.specs.Says.{says, said_in}
+use Rattle.group_rules.specs.Events.{Event, answer_of, step_of}
+use Rattle.group_says.specs.Says.{says}
 use Rattle.group_tells.specs.Tells.{event_text, malformed_text}
 use Rattle.group_lines.specs.declared.Run.{Run}
 use Rattle.group_lines.specs.Reading.{after_said, said_text, after_line, line_text}
-
--- what the code says of a line
-pub said-none : (r : Said) (s : List ℕ) → said_in r ≡ says s → r.known ≡ false → says s ≡ none
-said-none r s e k = sym e ∙ rw k
-
-pub said-some : (r : Said) (s : List ℕ) → said_in r ≡ says s → r.known ≡ true
-    → says s ≡ some (said r.event r.tickets)
-said-some r s e k = sym e ∙ rw k
 
 module _ (run : Run) (s : List ℕ) where
   -- after a malformed line

@@ -59,15 +59,14 @@ pub fn none_held() -> Held
     ensures value { result ≡ none_held }
     ensures group_value { sound_of result.run.group ≡ true }
 {
-    let g = Group::none_entered();
     let run = Run {
-        group: g,
+        group: Group::none_entered(),
         events: 0,
         lines: 0,
         malformed: false,
     };
     Held {
-        run: run,
+        run,
         room: [0; ROOM],
         n: 0,
         used: 0,

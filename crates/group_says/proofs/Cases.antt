@@ -1,6 +1,7 @@
 -- Lines and what they say, computed. A line is written as its bytes, or as a word with bytes behind it, under its text.
 -- Assumes nothing.
 use Prim.Native.Nat.{ℕ, zero, suc}
+use Rattle.std.specs.Prelude.{Some, None}
 use mathlib.Core.Path.{◌≡◌, refl}
 use mathlib.Core.Bool.{true, false}
 use mathlib.Core.List.{List, [], ◌∷◌, ◌++◌}
@@ -153,7 +154,7 @@ too_wide = (refl, refl, refl, refl, refl, refl, refl)
 -- WHAT THE CODE ANSWERS
 
 pub told :
-    (said_in (record { known = true; event = case.Call (record { 0 = 1 }) (record { 0 = 2 }); tickets = no_tickets })
+    (said_in (Some (record { event = case.Call (record { 0 = 1 }) (record { 0 = 2 }); tickets = no_tickets }))
     ≡ some (call 1 2))
-    × (said_in (record { known = false; event = case.Reply (record { 0 = 0 }); tickets = no_tickets }) ≡ none)
+    × (said_in None ≡ none)
 told = (refl, refl)

@@ -1,37 +1,16 @@
--- Two texts, as the code compares them byte by byte.
+-- Two texts, as the library compares them.
 -- Assumes nothing.
-use Prim.Native.Nat.{ℕ, ◌+◌, ◌≤◌, ◌<◌}
-use native.Mathlib.Numerals.{add-one}
-use native.Mathlib.Omega.{arith}
-use mathlib.Core.Path.{◌≡◌, refl}
-use mathlib.Core.Bool.{true, false}
+use Prim.Native.Nat.{ℕ}
+use mathlib.Core.Path.{◌≡◌, refl, ap}
+use mathlib.Core.Bool.{Bool, ◌&&◌}
 use mathlib.Core.List.{List, [], ◌∷◌}
 use lib.Dec.{eqb}
-use lib.ListN.{length, get_or, drop, drop_of_length-le}
-use lib.Seq.{drop-cons}
-use borrow.Author.Tests.{eq-eqb, ne_eqb}
-use Rattle.rules.proofs.Tests.{by-test}
+use lib.Pointwise.{pointwise}
 use Rattle.group_says.specs.Says.{same}
 
-pub other_length : (s t : List ℕ) → (length s ≡ length t → ⊥) → same s t ≡ false
+pub same-is : (s t : List ℕ) → pointwise eqb s t ≡ same s t
 unfolding same
-other_length [] [] n = absurd (n refl)
-other_length [] (y ∷ t) n = refl
-other_length (x ∷ s) [] n = refl
-other_length (x ∷ s) (y ∷ t) n =
-    by-test (eqb x y) (λ e. rw e (other_length s t (λ q. n (omega arith)))) (λ e. rw e)
-
--- from byte i on
-module _ (s t : List ℕ) (i : ℕ) where
-  pub other_byte : i < length s → i < length t → (get_or s i 0 ≡ get_or t i 0 → ⊥) → same (drop i s) (drop i t) ≡ false
-  unfolding same
-  other_byte a b n = rw (drop-cons s i 0, drop-cons t i 0, ne_eqb (get_or s i 0) (get_or t i 0) n)
-
-  pub same_byte : i < length s → i < length t → get_or s i 0 ≡ get_or t i 0
-      → same (drop i s) (drop i t) ≡ same (drop (i + 1) s) (drop (i + 1) t)
-  unfolding same
-  same_byte a b e = rw (add-one, drop-cons s i 0, drop-cons t i 0, eq-eqb (get_or s i 0) (get_or t i 0) e)
-
-  pub all_same : length s ≤ i → length t ≤ i → same (drop i s) (drop i t) ≡ true
-  unfolding same
-  all_same a b = rw (drop_of_length-le s a, drop_of_length-le t b)
+same-is [] [] = refl
+same-is [] (y ∷ t) = refl
+same-is (x ∷ s) [] = refl
+same-is (x ∷ s) (y ∷ t) = ap (λ (b : Bool). eqb x y && b) (same-is s t)

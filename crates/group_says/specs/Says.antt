@@ -2,6 +2,8 @@
 -- `reply CONTEXT`, with exactly one space before each number.
 -- Assumes nothing.
 use Rattle.std.specs.Prelude.{ℕ, Bool, true, false, ◌&&◌, cond, List, [], ◌∷◌, eqb, leb, length, get_or, drop, replicate}
+use Rattle.std.specs.Prelude as code
+use Rattle.std.specs.Prelude.{Some, None}
 use Rattle.std.proofs.Math.Option.{Option, some, none}
 use Rattle.text.specs.Text.{space, bits8, max_count}
 use Rattle.fields.specs.Fields.{fields}
@@ -83,5 +85,6 @@ unfoldable pub says : List ℕ → Option Event
 says s = cond (leb (length s) max_line) (by_fields (fields space s)) none
 
 -- what the code answers
-abbrev pub said_in : Said → Option Event
-said_in r = cond r.known (some (said r.event r.tickets)) none
+abbrev pub said_in : code.Option Said → Option Event
+said_in None = none
+said_in (Some r) = some (said r.event r.tickets)

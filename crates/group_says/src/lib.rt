@@ -2,7 +2,6 @@
 #![tactic(auto)]
 
 ghost use Rattle.std.specs.Prelude.{◌≡◌, true, length, take};
-ghost use Rattle.std.proofs.Math.Option.{none};
 ghost use Rattle.fields.specs.Fields.{fields};
 ghost use Rattle.text.specs.Text.{space, bits8};
 ghost use Rattle.lines.specs.Lines.{all_fit};
@@ -18,10 +17,9 @@ use text::{BITS_8, BITS_64, SPACE};
 // The most numbers of a line: context, timestamp, first call, and the tickets for each server.
 const NUMBERS: usize = 19;
 
-// What a line says: an event, with the tickets that it brings; or, if that is not known, nothing.
+// What a line says: an event, with the tickets that it brings.
 #[derive(Clone, Copy)]
 pub struct Said {
-    pub known: bool,
     pub event: Event,
     pub tickets: Tickets,
 }
@@ -30,17 +28,7 @@ pub struct Said {
 fn is_word(s: &[u8], word: &[u8]) -> bool
     ensures { result ≡ same s.now word.now }
 {
-    if s.len() != word.len() {
-        return false;
-    }
-    let mut i = 0;
-    while i < s.len() {
-        if s[i] != word[i] {
-            return false;
-        }
-        i += 1;
-    }
-    true
+    s == word
 }
 
 // The numbers of the fields, from the first place on, and how many they are: none where one is no number of 64 bits, or
@@ -67,73 +55,58 @@ fn read_numbers(s: &[u8], v: &mut [u64]) -> usize
     n
 }
 
-fn malformed() -> Said
-    ensures { said_in result ≡ none }
-{
-    Said {
-        known: false,
-        event: Event::Reply(Context(0)),
-        tickets: no_tickets(),
-    }
-}
-
 // The tickets among the numbers of an entry.
 fn tickets_in(v: &[u64]) -> Tickets
     requires { (length v.now ≡ max_servers) × (all_fit bits8 v.now ≡ true) }
     ensures { result.counts ≡ v.now }
 {
     let mut counts = [0u8; 16];
-    let mut s = 0;
-    while s < 16 {
-        counts[s] = v[s] as u8;
-        s += 1;
+    for (s, count) in counts.iter_mut().enumerate() {
+        *count = v[s] as u8;
     }
     Tickets { counts }
 }
 
-fn entry_in(v: &[u64]) -> Said
+fn entry_in(v: &[u64]) -> Option<Said>
     ensures { said_in result ≡ entry_in v.now }
 {
     let mut widths = [BITS_8; NUMBERS];
     widths[1] = BITS_64;
     if !fit(&widths, v) {
-        return malformed();
+        return None;
     }
-    Said {
-        known: true,
+    Some(Said {
         event: Event::Entry(Context(v[0] as u8), v[1], Server(v[2] as u8)),
         tickets: tickets_in(&v[3..]),
-    }
+    })
 }
 
-fn call_in(v: &[u64]) -> Said
+fn call_in(v: &[u64]) -> Option<Said>
     ensures { said_in result ≡ call_in v.now }
 {
     if !fit(&[BITS_8, BITS_8], v) {
-        return malformed();
+        return None;
     }
-    Said {
-        known: true,
+    Some(Said {
         event: Event::Call(Context(v[0] as u8), Server(v[1] as u8)),
         tickets: no_tickets(),
-    }
+    })
 }
 
-fn reply_in(v: &[u64]) -> Said
+fn reply_in(v: &[u64]) -> Option<Said>
     ensures { said_in result ≡ reply_in v.now }
 {
     if !fit(&[BITS_8], v) {
-        return malformed();
+        return None;
     }
-    Said {
-        known: true,
+    Some(Said {
         event: Event::Reply(Context(v[0] as u8)),
         tickets: no_tickets(),
-    }
+    })
 }
 
 // By the word, and the numbers behind it.
-fn by_word(word: &[u8], v: &[u64]) -> Said
+fn by_word(word: &[u8], v: &[u64]) -> Option<Said>
     ensures { said_in result ≡ by_word word.now v.now }
 {
     if is_word(word, b"entry") {
@@ -145,19 +118,19 @@ fn by_word(word: &[u8], v: &[u64]) -> Said
     if is_word(word, b"reply") {
         return reply_in(v);
     }
-    malformed()
+    None
 }
 
 // A line without its LF.
-pub fn said_by(line: &[u8]) -> Said
+pub fn said_by(line: &[u8]) -> Option<Said>
     ensures { said_in result ≡ says line.now }
 {
     if MAX_LINE < line.len() {
-        return malformed();
+        return None;
     }
     let e = fields::end(line, 0, SPACE);
     if e == line.len() {
-        return malformed();
+        return None;
     }
     let mut v = [0u64; NUMBERS];
     let n = read_numbers(&line[e + 1..], &mut v);

@@ -13,4 +13,4 @@ unfolding sound_of context_sound is_empty all_below every holds_only unpad pad
 none-sound = refl
 
 pub returns : goal.returns
-returns c = rw c.none_entered-g.ensures (record { value = refl; group_value = none-sound })
+returns c = rw c.none_entered.ensures (record { value = refl; group_value = none-sound })

@@ -30,4 +30,3 @@ pub returns : goal.returns
 unfolding by_word
 returns c =
     rw (other _ _ c.is_word.ensures c.if-is_word.false, other _ _ c.is_word-2.ensures c.if-is_word-2.false, sym c.is_word-3.ensures ∙ c.if-is_word-3.false)
-    c.malformed.ensures

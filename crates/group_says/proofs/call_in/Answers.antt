@@ -19,7 +19,7 @@ pub returns-then-not-fit : goal.returns-then-not-fit
 unfolding call_in
 returns-then-not-fit c =
     let other = sym c.fit.ensures ∙ c.if-not-fit.true in
-    rw other c.malformed.ensures
+    rw other
 
 pub bounds-v-0 : goal.bounds-v-0
 bounds-v-0 c = omega (arith, fit_length _ _ (fits c.args.v.now c.fit.ensures c.if-not-fit.false))

@@ -15,12 +15,12 @@ few : (n : ℕ) (v : List ℕ) {l : List ℕ} → n ≡ length l → take n v �
 few n v e t = omega (arith, length-take n v, ap length t, e)
 
 pub returns-then-line-gt-MAX_LINE : goal.returns-then-line-gt-MAX_LINE
-returns-then-line-gt-MAX_LINE c = c.malformed.ensures ∙ sym (too_long c.args.line.now c.if-line-gt-MAX_LINE.true)
+returns-then-line-gt-MAX_LINE c = sym (too_long c.args.line.now c.if-line-gt-MAX_LINE.true)
 
 pub returns-then-e-line : goal.returns-then-e-line
 returns-then-e-line c =
     let line = c.args.line.now in
-    c.malformed-then-e-line.ensures ∙ sym (word-alone line (omega (arith, c.end-e.ensures.ends, c.if-e-line.true)))
+    sym (word-alone line (omega (arith, c.end-e.ensures.ends, c.if-e-line.true)))
 
 pub slice_bounds-by_word-end : goal.slice_bounds-by_word-end
 slice_bounds-by_word-end c =

@@ -9,36 +9,23 @@ use Rattle.lines.proofs.Widths.{all-at, one-copied}
 use Rattle.group_says.proofs.tickets_in.Goals as goal
 
 pub loop-s-init : goal.loop-s-init
-loop-s-init c = (omega arith, refl, refl)
-
-pub offset_bounds-v-s : goal.offset_bounds-v-s
-offset_bounds-v-s c = omega arith
+loop-s-init c = (refl, refl)
 
 pub bounds-v-s : goal.bounds-v-s
 bounds-v-s c = omega arith
 
-pub overflow_cast-counts : goal.overflow_cast-counts
-overflow_cast-counts c = omega (arith, all-at bits8 c.args.v.now c.requires.1 c.loop-s.s)
-
-pub bounds-counts-s : goal.bounds-counts-s
-bounds-counts-s c = omega arith
-
-pub overflow_add-s : goal.overflow_add-s
-overflow_add-s c = omega arith
-
-pub loop-s-smaller : goal.loop-s-smaller
-loop-s-smaller c = omega arith
+pub overflow_cast-count : goal.overflow_cast-count
+overflow_cast-count c = omega (arith, all-at bits8 c.args.v.now c.requires.1 c.loop-s.s)
 
 pub loop-s-preserved : goal.loop-s-preserved
 loop-s-preserved c = let v = c.args.v.now in
     let s = c.loop-s.s in (
-      omega arith,
-      length-set c.loop-s.counts s (get_or v s 0) ∙ c.loop-s.invariant.1,
-      one-copied v c.loop-s.counts s (omega arith) (omega arith) c.loop-s.invariant.2,
+      length-set c.loop-s.count-items s (get_or v s 0) ∙ c.loop-s.invariant.0,
+      one-copied v c.loop-s.count-items s (omega arith) (omega arith) c.loop-s.invariant.1,
     )
 
 pub returns : goal.returns
 returns c = let v = c.args.v.now in
-    sym (take_all c.loop-s.s c.loop-s.counts (omega arith))
-    ∙ c.loop-s.invariant.2
+    sym (take_all c.loop-s.s c.loop-s.count-items (omega arith))
+    ∙ c.loop-s.invariant.1
     ∙ take_all c.loop-s.s v (omega arith)
