@@ -134,6 +134,7 @@ fn write_records(
     ensures { result.end ≤ line_bytes * (1 + most_records) }
 {
     let mut s = first;
+    // Not a range by a record's size: the place of the next record is held with the rest, as a cut one is told there.
     while s.next < log.len() {
         let Ok(read) = record_at(log, version, timed, s.next) else {
             break;
