@@ -98,14 +98,15 @@ pub fn reply(q: Queues, setup: &Setup, keys: &mut [u32; 64]) -> Outcome
     requires { ServerFits (server_of q.service.server) × Homes setup.now.homes }
     ensures { (cs : List ℕ) → Answering setup.now rules.reply q cs keys.old result cs keys.new }
 {
-    if !serving::is_serving(q.service.server) {
+    let server = q.service.server;
+    if !serving::is_serving(server) {
         return Outcome {
             answer: Answer::ServerIdle,
             queues: q,
         };
     }
     let n = leaving::replied(q, setup, keys);
-    replied(keys, setup, q.service.server);
+    replied(keys, setup, server);
     Outcome {
         answer: Answer::Accepted,
         queues: n,

@@ -57,8 +57,9 @@ pub fn invoked(q: Queues, setup: &Setup, c: Client) -> Queues
     requires { (c.0 < max_clients) × Homes setup.now.homes }
     ensures { Leaves setup.now (λ s. Ready setup.now s c.0) (λ u s. rules.invoked u c.0 s) q result }
 {
+    let server = q.service.server;
     let n = entered(q, setup, c);
-    if serving::is_idle(q.service.server) {
+    if serving::is_idle(server) {
         return moves::picked(n);
     }
     n
