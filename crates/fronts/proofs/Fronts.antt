@@ -27,7 +27,7 @@ use Rattle.soundness.specs.Clauses.{of_cluster, lines_sound}
 use Rattle.soundness.proofs.Facts.{OfCluster, lines-facts}
 use Rattle.soundness.proofs.Sets.{members}
 use Rattle.standing.specs.Answers.{lines_in}
-use Rattle.standing.proofs.Once.{flip}
+use Rattle.seen.proofs.Once.{flip}
 use Rattle.fronts.specs.Answers.{firsts_of, queued_of}
 use Rattle.setup_check.proofs.Members.{clients, own_is}
 

@@ -22,12 +22,13 @@ use Rattle.places.specs.Places.{unpad, used_first}
 use Rattle.gate.specs.declared.Gate.{Gate}
 use Rattle.gate.specs.Shown.{setup_of, server_of, state_of}
 use Rattle.parts.specs.Shows.{Fine}
-use Rattle.soundness.specs.Tests.{every, all_below, distinct, set_in, first_in}
+use Rattle.places.specs.Tests.{every, all_below, distinct}
+use Rattle.soundness.specs.Tests.{set_in, first_in}
 use Rattle.soundness.specs.Clauses.{laid, lines_sound, global_sound}
-use Rattle.soundness.proofs.Tests.{every-has, all-at, at_all}
+use Rattle.places.proofs.Tests.{every-has, all-at, at_all}
 use Rattle.soundness.proofs.Facts.{lines-facts}
 use Rattle.soundness.proofs.Sets.{members, set-has}
-use Rattle.standing.specs.Answers.{queue_seen}
+use Rattle.seen.specs.Seen.{queue_seen}
 use Rattle.standing.proofs.Once.{seen-once}
 use Rattle.fronts.specs.Answers.{firsts_of, queued_of, global_fits}
 use Rattle.setup_check.proofs.Members.{clients}

@@ -9,7 +9,7 @@ use Rattle.sets.specs.Sets.{member, set_of, without_of, less_of}
 use Rattle.gate.specs.declared.Line.{Line}
 use Rattle.gate.specs.Shown.{blank_line}
 use Rattle.setup_check.specs.declared.Clients.{Clients}
-use Rattle.standing.specs.Answers.{queue_seen}
+use Rattle.seen.specs.Seen.{queue_seen}
 
 -- the test of what is seen, if all is sound there
 abbrev pub then_test : Option ℕ → (ℕ → Bool) → Bool

@@ -7,9 +7,8 @@ ghost use Rattle.gate.specs.Shown.{server_of};
 ghost use Rattle.parts.specs.Shows.{Homes};
 ghost use Rattle.fronts.specs.Answers.{firsts_of, queued_of, global_fits, server_fits};
 
-use gate::{Gate, Line, Server};
+use gate::{Line, Server};
 use setup_check::Clients;
-use standing::Seen;
 
 // THE GLOBAL QUEUE
 
@@ -17,11 +16,9 @@ use standing::Seen;
 pub fn firsts(lines: [Line; 8]) -> u64
     ensures { result ≡ firsts_of lines max_clusters }
 {
-    let mut fronts: u64 = 0;
-    let mut k: usize = 0;
-    while k < Gate::MAX_CLUSTERS {
-        fronts = sets::with(fronts, gate::wide(rows::front(lines[k])));
-        k += 1;
+    let mut fronts = 0;
+    for line in lines.iter() {
+        fronts = sets::with(fronts, usize::from(rows::front(*line)));
     }
     fronts
 }
@@ -42,7 +39,7 @@ pub fn queued(homes: &[u8; 64], own: [u64; 8], server: Server, fronts: u64) -> u
 pub fn global_sound(q: &[u8], fronts: u64) -> bool
     ensures { result ≡ global_fits fronts q.now }
 {
-    let Seen::Once(queue) = standing::queue_seen(q, fronts, 0) else {
+    let Some(queue) = seen::queue_seen(q, fronts, 0) else {
         return false;
     };
     queue == fronts

@@ -3,21 +3,29 @@
 use Prim.Native.Nat.{ℕ, ◌+◌, ◌<◌}
 use mathlib.Core.Path.{◌≡◌, refl, sym, ap, ◌∙◌, fun_ext}
 use mathlib.Core.Bool.{Bool, true, false, ◌&&◌, and-false}
-use mathlib.Core.List.{List}
+use mathlib.Core.List.{List, [], ◌∷◌}
 use native.Mathlib.Omega.{arith}
 use lib.Dec.{eqb, ltb}
 use lib.ListN.{get_or, set}
 use borrow.Author.Tests.{eqb-true, eqb-false, ltb-true, ltb-false, lt-ltb, le-ltb}
+use Rattle.std.specs.List.{list_all}
 use Rattle.rules.specs.Limits.{max_clusters, max_clients}
 use Rattle.rules.specs.Lists.{upd}
 use Rattle.rules.proofs.Tests.{by-test}
 use Rattle.sets.specs.Sets.{set_of, with_of}
 use Rattle.sets.proofs.Laws.{set_of-upd, set_of-none}
+use Rattle.places.specs.Places.{holds_only}
 use Rattle.gate.specs.Shown.{show_rooms, table}
 use Rattle.parts.proofs.Parts.{room-put}
 use Rattle.gate.proofs.Tables.{table_same}
 use Rattle.setup_check.specs.Answers.{sets_of}
 use Rattle.setup_check.specs.declared.Clients.{Clients}
+
+-- the library's test of each element
+pub all_zero : (q : List ℕ) → list_all (λ x. eqb x 0) q ≡ holds_only 0 q
+unfolding holds_only
+all_zero [] = refl
+all_zero (x ∷ q) = ap (λ b. eqb x 0 && b) (all_zero q)
 
 pub same-clients : {a b : Clients} → a.own ≡ b.own → a.real ≡ b.real → a.effort ≡ b.effort → a ≡ b
 same-clients {a} {b} p q r = go a.own a.real a.effort p q r

@@ -4,7 +4,7 @@ use Rattle.std.specs.Prelude.{ℕ, Bool, not, ◌&&◌, List, eqb, ltb, get_or, 
 use Rattle.rules.specs.Limits.{max_clients}
 use Rattle.sets.specs.Sets.{set_of}
 use Rattle.gate.specs.Shown.{show_rooms}
-use Rattle.soundness.specs.Tests.{zeros}
+use Rattle.places.specs.Tests.{zeros}
 use Rattle.setup_check.specs.declared.Clients.{Clients}
 
 -- sizes past K and rows past N are zero

@@ -1,9 +1,9 @@
 // A setup: whether it is sound, and its clients as sets.
 #![tactic(auto)]
 
-ghost use Rattle.std.specs.Prelude.{◌≡◌, ◌+◌, ◌≤◌, ◌<◌, get_or, drop};
+ghost use Rattle.std.specs.Prelude.{◌≡◌, ◌==◌, ◌+◌, ◌≤◌, ◌<◌, get_or, drop};
+ghost use Rattle.std.specs.List.{list_all};
 ghost use Rattle.rules.specs.Limits.{max_clusters, max_clients};
-ghost use Rattle.places.specs.Places.{holds_only};
 ghost use Rattle.parts.specs.Shows.{Homes};
 ghost use Rattle.soundness.specs.Clauses.{setup_sound};
 ghost use Rattle.setup_check.specs.Answers.{trimmed, sets_of};
@@ -22,19 +22,13 @@ pub struct Clients {
 
 // Nothing but 0 from a place on.
 fn zero_priorities_from(q: &[u16], from: usize) -> bool
-    ensures { result ≡ holds_only 0 (drop from q.now) }
+    ensures { result ≡ list_all (λ p. p == 0) (drop from q.now) }
 {
-    let mut i = from;
-    while i < q.len() {
-        if q[i] != 0 {
-            return false;
-        }
-        i += 1;
-    }
-    true
+    q.iter().skip(from).all(|p| *p == 0)
 }
 
 // Client rows past N, and sizes past K, are zero.
+#[tactic(auto, using(crate::proofs::Sets::all_zero))]
 fn is_trimmed<'a>(
     sizes: &'a [u8; 8],
     kinds: &'a [u8; 64],
@@ -45,16 +39,10 @@ fn is_trimmed<'a>(
 ) -> bool
     ensures { result ≡ trimmed sizes.now kinds.now homes.now priorities.now k n }
 {
-    if !places::holds_only_from(sizes, k, 0) {
-        return false;
-    }
-    if !places::holds_only_from(kinds, n, 0) {
-        return false;
-    }
-    if !places::holds_only_from(homes, n, 0) {
-        return false;
-    }
-    zero_priorities_from(priorities, n)
+    places::holds_only_from(sizes, k, 0)
+        && places::holds_only_from(kinds, n, 0)
+        && places::holds_only_from(homes, n, 0)
+        && zero_priorities_from(priorities, n)
 }
 
 pub fn setup_sound(s: Setup) -> bool
@@ -69,8 +57,8 @@ pub fn setup_sound(s: Setup) -> bool
         &s.kinds,
         &s.homes,
         &s.priorities,
-        gate::wide(s.clusters),
-        gate::wide(s.clients),
+        usize::from(s.clusters),
+        usize::from(s.clients),
     )
 }
 
@@ -86,7 +74,7 @@ fn with_client(kinds: &[u8; 64], homes: &[u8; 64], all: Clients, c: usize) -> Cl
         next.effort = sets::with(next.effort, c);
         return next;
     }
-    let k = gate::wide(homes[c]);
+    let k = usize::from(homes[c]);
     next.own[k] = sets::with(next.own[k], c);
     next.real = sets::with(next.real, c);
     next
@@ -102,10 +90,8 @@ pub fn clients_below<'a>(kinds: &'a [u8; 64], homes: &'a [u8; 64], n: usize) -> 
         real: 0,
         effort: 0,
     };
-    let mut c: usize = 0;
-    while c < n {
+    for c in 0..n {
         all = with_client(kinds, homes, all, c);
-        c += 1;
     }
     all
 }

@@ -7,7 +7,7 @@ use mathlib.Core.List.{List, [], ◌∷◌}
 use lib.Dec.{eqb}
 use Rattle.sets.specs.Sets.{member}
 use Rattle.gate.specs.Shown.{table}
-use Rattle.soundness.specs.Tests.{all_below}
+use Rattle.places.specs.Tests.{all_below}
 use Rattle.sound_check.specs.Answers.{deadline_fits, deadlines_fit}
 
 -- clients 0 to 3 of clusters 0, 1, 0, 1; 3 is in the room of cluster 1, and 2 in it too, which is not its own; 0 is

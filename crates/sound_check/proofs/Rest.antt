@@ -21,14 +21,16 @@ use Rattle.gate.specs.declared.Gate.{Gate}
 use Rattle.gate.specs.Shown.{setup_of, server_of, state_of}
 use Rattle.parts.specs.Shows.{Fine}
 use Rattle.parts.proofs.SoundShows.{accepted-fine}
-use Rattle.soundness.specs.Tests.{all_below, joined}
+use Rattle.places.specs.Tests.{all_below}
+use Rattle.soundness.specs.Tests.{joined}
 use Rattle.soundness.specs.Clauses.{laid, is_real, of_cluster, setup_sound, everyone, line_sound, lines_sound}
 use Rattle.soundness.specs.Clauses.{background_sound, stand_sound, rooms_sound, server_sound, charges_sound, rest_sound}
 use Rattle.soundness.specs.Clauses.{sound_of}
 use Rattle.soundness.proofs.Facts.{setup-facts}
-use Rattle.standing.specs.Answers.{lines_in, line_fits, lines_fit, seen_if, lines_seen, queue_seen, rooms_fit}
+use Rattle.seen.specs.Seen.{seen_if, queue_seen}
+use Rattle.standing.specs.Answers.{lines_in, line_fits, lines_fit, lines_seen, rooms_fit}
 use Rattle.setup_check.specs.declared.Clients.{Clients}
-use Rattle.standing.proofs.Once.{and_then}
+use Rattle.seen.proofs.Once.{and_then}
 use Rattle.standing.proofs.Standing.{standing-is}
 use Rattle.fronts.specs.Answers.{then_test, firsts_of, queued_of, global_fits, server_fits}
 use Rattle.sound_check.specs.Answers.{charges_fit, deadlines_fit}

@@ -18,13 +18,15 @@ use Rattle.sets.specs.Sets.{member}
 use Rattle.gate.specs.declared.Gate.{Gate}
 use Rattle.gate.specs.Shown.{setup_of, state_of}
 use Rattle.parts.specs.Shows.{Fine}
-use Rattle.soundness.specs.Tests.{distinct, joined, set_in}
+use Rattle.places.specs.Tests.{distinct}
+use Rattle.soundness.specs.Tests.{joined, set_in}
 use Rattle.soundness.specs.Clauses.{lines_sound, deadlines_sound}
-use Rattle.soundness.proofs.Tests.{all_same}
+use Rattle.places.proofs.Tests.{all_same}
 use Rattle.soundness.proofs.Joined.{joined-has, has-joined}
 use Rattle.soundness.proofs.Sets.{set-has}
 use Rattle.soundness.proofs.Facts.{lines-facts}
-use Rattle.standing.specs.Answers.{lines_in, seen_from}
+use Rattle.seen.specs.Seen.{seen_from}
+use Rattle.standing.specs.Answers.{lines_in}
 use Rattle.standing.proofs.Once.{seen-once}
 use Rattle.standing.proofs.Standing.{in_lines}
 use Rattle.sound_check.specs.Answers.{deadlines_fit}

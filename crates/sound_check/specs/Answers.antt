@@ -3,7 +3,7 @@
 use Rattle.std.specs.Prelude.{ℕ, Bool, ◌&&◌, ◌||◌, List, eqb, leb, length, get_or}
 use Rattle.rules.specs.Limits.{max_clients, max_charge, max_deadline}
 use Rattle.sets.specs.Sets.{member}
-use Rattle.soundness.specs.Tests.{all_below}
+use Rattle.places.specs.Tests.{all_below}
 
 abbrev pub charge_fits : ℕ → ℕ → ℕ → Bool
 charge_fits real c n = leb n max_charge && (member real c || eqb n 0)

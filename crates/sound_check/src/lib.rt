@@ -8,32 +8,23 @@ ghost use Rattle.soundness.specs.Clauses.{sound_of};
 ghost use Rattle.sound_check.specs.Answers.{charge_fits, charges_fit, deadline_fits, deadlines_fit};
 
 use gate::Gate;
-use standing::Seen;
 
 // CHARGES
 
 fn charge_sound(real: u64, owner: usize, n: u32) -> bool
     ensures { result ≡ charge_fits real owner n }
 {
-    if n > Gate::MAX_CHARGE {
-        return false;
-    }
-    if n == 0 {
-        return true;
-    }
-    sets::member(real, owner)
+    n <= Gate::MAX_CHARGE && (n == 0 || sets::member(real, owner))
 }
 
 fn charges_sound(q: &[u32; 64], real: u64) -> bool
     requires { length q.now ≡ max_clients }
     ensures { result ≡ charges_fit real q.now }
 {
-    let mut c: usize = 0;
-    while c < Gate::MAX_CLIENTS {
-        if !charge_sound(real, c, q[c]) {
+    for (c, n) in q.iter().enumerate() {
+        if !charge_sound(real, c, *n) {
             return false;
         }
-        c += 1;
     }
     true
 }
@@ -61,7 +52,7 @@ fn deadline_sound(
     if sets::member(seen, owner) {
         return true;
     }
-    let k = gate::wide(homes[owner]);
+    let k = usize::from(homes[owner]);
     sets::member(rooms[k], owner)
 }
 
@@ -75,12 +66,10 @@ fn deadlines_sound<'a>(
     requires { (length q.now ≡ max_clients) × Homes homes.now }
     ensures { result ≡ deadlines_fit homes.now rooms timed seen q.now }
 {
-    let mut c: usize = 0;
-    while c < Gate::MAX_CLIENTS {
-        if !deadline_sound(homes, rooms, timed, seen, c, q[c]) {
+    for (c, d) in q.iter().enumerate() {
+        if !deadline_sound(homes, rooms, timed, seen, c, *d) {
             return false;
         }
-        c += 1;
     }
     true
 }
@@ -95,13 +84,13 @@ pub fn sound(g: Gate) -> bool
     if !setup_check::setup_sound(s) {
         return false;
     }
-    let clients = setup_check::clients_below(&s.kinds, &s.homes, gate::wide(s.clients));
+    let clients = setup_check::clients_below(&s.kinds, &s.homes, usize::from(s.clients));
     let own = clients.own;
     let lines = g.lines;
-    let Seen::Once(seen) = standing::lines_seen(&s.sizes, own, lines) else {
+    let Some(seen) = standing::lines_seen(&s.sizes, own, lines) else {
         return false;
     };
-    let Seen::Once(stand) = standing::queue_seen(&g.background, clients.effort, seen) else {
+    let Some(stand) = seen::queue_seen(&g.background, clients.effort, seen) else {
         return false;
     };
     let rooms = g.rooms;
@@ -117,8 +106,8 @@ pub fn sound(g: Gate) -> bool
     if !fronts::server_sound(clients, &s.homes, rooms, first, stand, server, g.units) {
         return false;
     }
-    let cap = serving::cap_of(&s, server);
-    if g.units > (cap as u32) {
+    let cap = u32::from(serving::cap_of(&s, server));
+    if g.units > cap {
         return false;
     }
     if !charges_sound(&g.charges, clients.real) {

@@ -17,7 +17,8 @@ use Rattle.gate.specs.declared.Server.{Server}
 use Rattle.gate.specs.declared.Server.TheVariants.{Idle, Front, Best, Spent, Tidying}
 use Rattle.gate.specs.declared.Gate.{Gate}
 use Rattle.gate.specs.Shown.{state_of, shown, table, client}
-use Rattle.soundness.specs.Tests.{every, all_below, distinct, joined, set_in, first_in}
+use Rattle.places.specs.Tests.{every, all_below, distinct}
+use Rattle.soundness.specs.Tests.{joined, set_in, first_in}
 use Rattle.soundness.specs.Clauses.{sound_of, setup_sound, is_trimmed, laid, line_sound, lines_sound}
 use Rattle.soundness.specs.Clauses.{background_sound, room_sound, rooms_sound, global_sound, charges_sound}
 use Rattle.soundness.specs.Clauses.{deadlines_sound, stand_sound, rest_sound}

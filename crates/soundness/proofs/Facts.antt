@@ -21,11 +21,12 @@ use Rattle.gate.specs.declared.Line.{Line}
 use Rattle.gate.specs.declared.Setup.{Setup}
 use Rattle.gate.specs.declared.Gate.{Gate}
 use Rattle.gate.specs.Shown.{setup_of, blank_line}
-use Rattle.soundness.specs.Tests.{every, all_below, zeros, distinct, set_in}
+use Rattle.places.specs.Tests.{every, all_below, zeros, distinct}
+use Rattle.soundness.specs.Tests.{set_in}
 use Rattle.soundness.specs.Clauses.{is_trimmed, setup_sound, laid, is_real, of_cluster, line_sound, lines_sound}
 use Rattle.soundness.specs.Clauses.{background_sound, room_sound, rooms_sound, global_sound, server_sound}
 use Rattle.soundness.specs.Clauses.{charges_sound, deadlines_sound, stand_sound, rest_sound}
-use Rattle.soundness.proofs.Tests.{every-has, all-at, zeros-past, past-zeros}
+use Rattle.places.proofs.Tests.{every-has, all-at, zeros-past, past-zeros}
 
 -- CLAUSES
 

@@ -30,7 +30,7 @@ use Rattle.soundness.specs.Tests.{set_in, first_in}
 use Rattle.soundness.specs.Clauses.{of_cluster, everyone}
 use Rattle.soundness.specs.Clauses.{room_sound, rooms_sound, global_sound, server_sound, charge_sound, charges_sound}
 use Rattle.soundness.specs.Clauses.{deadline_sound, deadlines_sound}
-use Rattle.soundness.proofs.Tests.{and_both, has-every, at_all, is-distinct}
+use Rattle.places.proofs.Tests.{and_both, has-every, at_all, is-distinct}
 use Rattle.soundness.proofs.Sets.{set-has}
 use Rattle.soundness.proofs.Facts.{Clauses, in-cluster}
 use Rattle.soundness.proofs.ShownStands as stands

@@ -1,5 +1,4 @@
 -- The test is exact. What it says of a gate, what makes it true, and gates to try it on. Assumes nothing.
-pub mod Tests
 pub mod Joined
 pub mod Sets
 pub mod Facts

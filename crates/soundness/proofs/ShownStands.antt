@@ -24,10 +24,11 @@ use Rattle.gate.specs.Shown.{setup_of, blank_line, show_lines, shown}
 use Rattle.parts.specs.Shows.{Fits, Shows}
 use Rattle.gate.proofs.Tables.{length-table, table_at}
 use Rattle.parts.proofs.SoundShows.{sound-shows}
-use Rattle.soundness.specs.Tests.{distinct, joined, set_in}
+use Rattle.places.specs.Tests.{distinct}
+use Rattle.soundness.specs.Tests.{joined, set_in}
 use Rattle.soundness.specs.Clauses.{laid, everyone, of_cluster, of_background, line_sound, lines_sound}
 use Rattle.soundness.specs.Clauses.{background_sound}
-use Rattle.soundness.proofs.Tests.{has-every, at_all, is-distinct}
+use Rattle.places.proofs.Tests.{has-every, at_all, is-distinct}
 use Rattle.soundness.proofs.Joined.{joined-has, distinct_append, distinct-joined}
 use Rattle.soundness.proofs.Sets.{set-has}
 use Rattle.soundness.proofs.Facts.{facts-laid, in-cluster}

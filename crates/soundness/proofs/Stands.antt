@@ -24,10 +24,11 @@ use Rattle.gate.specs.declared.Gate.{Gate}
 use Rattle.gate.specs.Shown.{setup_of, state_of, blank_line}
 use Rattle.parts.specs.Shows.{Fine}
 use Rattle.parts.proofs.SoundShows.{accepted-fine}
-use Rattle.soundness.specs.Tests.{every, all_below, joined, set_in}
+use Rattle.places.specs.Tests.{every, all_below}
+use Rattle.soundness.specs.Tests.{joined, set_in}
 use Rattle.soundness.specs.Clauses.{laid, of_background, background_sound, everyone}
 use Rattle.soundness.specs.Clauses.{is_real, charge_sound, charges_sound, deadline_sound, deadlines_sound}
-use Rattle.soundness.proofs.Tests.{every-has, all-at, distinct-is}
+use Rattle.places.proofs.Tests.{every-has, all-at, distinct-is}
 use Rattle.soundness.proofs.Joined.{not-appended, distinct-left, joined-has, has-joined, joined-distinct}
 use Rattle.soundness.proofs.Sets.{set-has}
 use Rattle.soundness.proofs.Facts.{Clauses, LineFacts, lines-facts}

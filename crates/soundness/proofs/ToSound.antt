@@ -26,10 +26,11 @@ use Rattle.gate.specs.declared.Gate.{Gate}
 use Rattle.gate.specs.Shown.{setup_of, state_of}
 use Rattle.parts.specs.Shows.{Fine, ServerFits}
 use Rattle.parts.proofs.Laid.{LaidOut}
-use Rattle.soundness.specs.Tests.{every, all_below, distinct, joined, set_in, first_in}
+use Rattle.places.specs.Tests.{every, all_below, distinct}
+use Rattle.soundness.specs.Tests.{joined, set_in, first_in}
 use Rattle.soundness.specs.Clauses.{laid, everyone}
 use Rattle.soundness.specs.Clauses.{room_sound, rooms_sound, global_sound, server_sound}
-use Rattle.soundness.proofs.Tests.{every-has, all-at, distinct-is}
+use Rattle.places.proofs.Tests.{every-has, all-at, distinct-is}
 use Rattle.soundness.proofs.Joined.{not-appended, has-joined}
 use Rattle.soundness.proofs.Sets.{set-has}
 use Rattle.soundness.proofs.Facts.{Clauses, laid-facts, RoomFacts, room-facts}

@@ -16,7 +16,8 @@ use Rattle.gate.specs.declared.Line.{Line}
 use Rattle.gate.specs.declared.Setup.{Setup}
 use Rattle.gate.specs.declared.Gate.{Gate}
 use Rattle.gate.specs.Shown.{setup_of, state_of, blank_line}
-use Rattle.soundness.specs.Tests.{every, all_below, zeros, distinct, joined, set_in, first_in}
+use Rattle.places.specs.Tests.{every, all_below, zeros, distinct}
+use Rattle.soundness.specs.Tests.{joined, set_in, first_in}
 
 -- THE SETUP
 

@@ -14,10 +14,12 @@ use Rattle.rules.specs.Limits.{max_clusters}
 use Rattle.sets.specs.Sets.{member}
 use Rattle.gate.specs.declared.Line.{Line}
 use Rattle.gate.specs.Shown.{blank_line}
-use Rattle.soundness.specs.Tests.{all_below, joined}
-use Rattle.standing.specs.Answers.{lines_in, line_fits, lines_fit, seen_from, lines_seen}
-use Rattle.soundness.proofs.Tests.{all-not}
-use Rattle.standing.proofs.Queues.{none-if}
+use Rattle.places.specs.Tests.{all_below}
+use Rattle.soundness.specs.Tests.{joined}
+use Rattle.seen.specs.Seen.{seen_from}
+use Rattle.standing.specs.Answers.{lines_in, line_fits, lines_fit, lines_seen}
+use Rattle.places.proofs.Tests.{all-not}
+use Rattle.seen.proofs.Queues.{none-if}
 
 -- what is left to join, of the lists below n
 module _ (f : ℕ → List ℕ) (k n : ℕ) where

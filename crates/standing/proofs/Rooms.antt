@@ -17,9 +17,9 @@ use Rattle.sets.specs.Sets.{member, less_of}
 use Rattle.sets.proofs.Bits.{member-none}
 use Rattle.sets.proofs.Laws.{member-set_of, set_of-none, set_of-cut, set_of-below, set_of-member}
 use Rattle.places.specs.Places.{unpad, place_of, used_of}
-use Rattle.soundness.specs.Tests.{all_below}
+use Rattle.places.specs.Tests.{all_below}
 use Rattle.soundness.specs.Clauses.{of_cluster, may_wait, room_sound}
-use Rattle.soundness.proofs.Tests.{at_all}
+use Rattle.places.proofs.Tests.{at_all}
 use Rattle.soundness.proofs.Facts.{of-cluster, in-cluster, room-facts}
 use Rattle.standing.specs.Answers.{room_fits}
 

@@ -15,13 +15,16 @@ use Rattle.rules.proofs.Tests.{by-test, both_true, either_true}
 use Rattle.rules.proofs.Lists.{has-append}
 use Rattle.places.specs.Places.{unpad}
 use Rattle.gate.specs.declared.Line.{Line}
-use Rattle.soundness.specs.Tests.{every, joined, set_in}
+use Rattle.places.specs.Tests.{every}
+use Rattle.soundness.specs.Tests.{joined, set_in}
 use Rattle.soundness.specs.Clauses.{laid, everyone, of_background, lines_sound, background_sound, stand_sound}
-use Rattle.soundness.proofs.Tests.{every-has}
+use Rattle.places.proofs.Tests.{every-has}
 use Rattle.soundness.proofs.Joined.{joined-has}
 use Rattle.soundness.proofs.Facts.{lines-facts}
-use Rattle.standing.specs.Answers.{lines_in, seen_from, seen_if}
-use Rattle.standing.proofs.Once.{and_then, seen-append, seen-once}
+use Rattle.seen.specs.Seen.{seen_from, seen_if}
+use Rattle.standing.specs.Answers.{lines_in}
+use Rattle.seen.proofs.Once.{and_then, seen-append}
+use Rattle.standing.proofs.Once.{seen-once}
 
 then-none : (o : Option ℕ) → and_then o (λ (t : ℕ). none) ≡ none
 then-none none = refl

@@ -1,16 +1,16 @@
--- Who is seen in the lines and in a queue, and who may be in the rooms: what the functions of this crate answer.
+-- Who is seen in the lines, and who may be in the rooms: what the functions of this crate answer.
 -- Assumes nothing.
-use Rattle.std.specs.Prelude.{ℕ, ◌^◌, Bool, ◌&&◌, ◌||◌, cond, List, [], ◌∷◌, eqb, ltb, leb, length, get_or}
-use Rattle.std.proofs.Math.Option.{Option, some, none}
+use Rattle.std.specs.Prelude.{ℕ, ◌^◌, Bool, ◌&&◌, ◌||◌, List, eqb, ltb, leb, length, get_or}
+use Rattle.std.proofs.Math.Option.{Option}
 use Rattle.rules.specs.Limits.{max_clusters, max_size, max_clients}
-use Rattle.sets.specs.Sets.{member, with_of, less_of}
-use Rattle.places.specs.Places.{unpad, used_first}
+use Rattle.sets.specs.Sets.{member, less_of}
+use Rattle.places.specs.Places.{unpad}
 use Rattle.gate.specs.declared.Line.{Line}
 use Rattle.gate.specs.Shown.{blank_line}
-use Rattle.soundness.specs.Tests.{every, all_below, joined}
+use Rattle.places.specs.Tests.{every, all_below}
+use Rattle.soundness.specs.Tests.{joined}
 use Rattle.soundness.specs.Clauses.{laid}
-use Rattle.standing.specs.declared.Seen.{Seen}
-use Rattle.standing.specs.declared.Seen.TheVariants.{Unsound, Once}
+use Rattle.seen.specs.Seen.{seen_if}
 
 -- LINES AND QUEUES
 
@@ -29,29 +29,11 @@ lines_fit m p ls =
 
 -- WHO IS SEEN
 
--- Each case's set, if any.
-abbrev pub seen_of : Seen → Option ℕ
-seen_of Unsound = none
-seen_of (Once s) = some s
-
--- the set s with those of the list, unless one of them is met twice
-unfoldable pub seen_from : ℕ → List ℕ → Option ℕ
-seen_from s [] = some s
-seen_from s (x ∷ l) = cond (member s x) none (seen_from (with_of s x) l)
-
--- the same, if the test is passed
-abbrev pub seen_if : Bool → ℕ → List ℕ → Option ℕ
-seen_if b s l = cond b (seen_from s l) none
-
 -- by the sizes, and the set of those who may stand in each line
 abbrev pub lines_seen : List ℕ → List ℕ → List Line → Option ℕ
 lines_seen sizes own ls =
     seen_if (lines_fit (λ (k : ℕ). get_or sizes k 0) (λ (k : ℕ). member (get_or own k 0)) ls) 0
     (joined (lines_in ls) 0 max_clusters)
-
--- the set s with those in a queue, each of whom passes the test
-unfoldable pub queue_seen : (ℕ → Bool) → List ℕ → ℕ → Option ℕ
-queue_seen p q s = seen_if (used_first q && every p (unpad q)) s (unpad q)
 
 -- WAITING ROOMS
 

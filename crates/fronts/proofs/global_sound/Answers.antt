@@ -4,7 +4,7 @@ use Prim.Native.Nat.{ℕ}
 use mathlib.Core.Path.{sym, ap, ◌∙◌}
 use mathlib.Core.Option.{Option}
 use lib.Dec.{eqb}
-use Rattle.standing.specs.Answers.{seen_of}
+use Rattle.seen.specs.Seen.{seen_of}
 use Rattle.fronts.specs.Answers.{then_test}
 use Rattle.fronts.proofs.global_sound.Goals as goal
 
@@ -16,4 +16,4 @@ returns-in_default c =
 pub returns : goal.returns
 returns c =
     ap (λ (o : Option ℕ). then_test o (λ (t : ℕ). eqb t c.args.fronts))
-    (sym (ap seen_of c.in-Once.is) ∙ c.queue_seen.ensures)
+    (sym (ap seen_of c.in-Some.is) ∙ c.queue_seen.ensures)

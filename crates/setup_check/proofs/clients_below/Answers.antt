@@ -8,24 +8,15 @@ use Rattle.setup_check.proofs.clients_below.Goals as goal
 
 pub loop-c-init : goal.loop-c-init
 unfolding table
-loop-c-init c = (omega arith, c.requires.0, no-clients c.args.kinds.now c.args.homes.now)
+loop-c-init c = no-clients c.args.kinds.now c.args.homes.now
 
 pub with_client-all-requires : goal.with_client-all-requires
 with_client-all-requires c =
     let l = c.loop-c in
-    (omega arith, c.requires.1.low l.c, l.invariant.2)
-
-pub overflow_add-c : goal.overflow_add-c
-overflow_add-c c = omega arith
-
-pub loop-c-smaller : goal.loop-c-smaller
-loop-c-smaller c = omega arith
-
-pub loop-c-preserved : goal.loop-c-preserved
-loop-c-preserved c = (omega arith, c.loop-c.invariant.1, c.with_client-all.ensures)
+    (omega arith, c.requires.1.low l.c, l.invariant)
 
 pub returns : goal.returns
 returns c =
     let l = c.loop-c in
     let e : l.c ≡ c.args.n = omega arith in
-    rw (← e) l.invariant.2
+    rw (← e) l.invariant

@@ -29,7 +29,7 @@ returns c =
     let home : ℕ → ℕ = λ x. get_or a.homes.now x 0 in
     let e = eq-eqb (get_or a.kinds.now a.c 0) 0 c.if-kinds-c-ne0.false in
     same-clients
-    (rw (c.with-2.ensures, c.wide-k.ensures)
+    (rw (c.with-2.ensures, c.from-k.ensures)
     (ap (λ (x : Clients). set x.own (home a.c) (with_of (get_or x.own (home a.c) 0) a.c)) c.requires.2
     ∙ own-joins real a.c home e c.requires.1))
     (c.with-3.ensures ∙ ap (λ (x : Clients). with_of x.real a.c) c.requires.2 ∙ set-joins real a.c e)

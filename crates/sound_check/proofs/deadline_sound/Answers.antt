@@ -9,9 +9,9 @@ use Rattle.rules.specs.Limits.{max_clusters, max_deadline}
 use Rattle.sound_check.proofs.deadline_sound.Goals as goal
 
 -- each client's cluster has a room
-low : (c : goal.After-wide-k) → c.wide-k.result < max_clusters
+low : (c : goal.After-from-k) → c.from-k.result < max_clusters
 low c =
-    omega (arith, c.wide-k.ensures, c.requires.1.low c.args.owner)
+    omega (arith, c.from-k.ensures, c.requires.1.low c.args.owner)
 
 pub returns-then-d-eq0 : goal.returns-then-d-eq0
 returns-then-d-eq0 c =
@@ -51,4 +51,4 @@ returns c =
       ne_eqb a.d 0 c.if-d-eq0.false,
       c.if-not-timed.false,
       sym c.member.ensures ∙ c.if-member.false,
-    ) (rw c.wide-k.ensures at c.member-2.ensures)
+    ) (rw c.from-k.ensures at c.member-2.ensures)

@@ -7,7 +7,7 @@ use lib.Dec.{eqb}
 use lib.ListN.{length}
 use borrow.Author.Tests.{eq-eqb}
 use Rattle.rules.specs.Limits.{max_clients}
-use Rattle.soundness.proofs.Tests.{all_none, all_more, all-not, all_done}
+use Rattle.places.proofs.Tests.{all_none, all_more, all-not, all_done}
 use Rattle.sound_check.specs.Answers.{deadlines_fit}
 use Rattle.sound_check.proofs.deadlines_sound.Invariants.{fits}
 use Rattle.sound_check.proofs.deadlines_sound.Goals as goal
@@ -15,7 +15,7 @@ use Rattle.sound_check.proofs.deadlines_sound.Goals as goal
 pub loop-c-init : goal.loop-c-init
 loop-c-init c =
     let a = c.args in
-    (omega arith, all_none (fits a.homes.now a.rooms a.timed a.seen a.q.now))
+    all_none (fits a.homes.now a.rooms a.timed a.seen a.q.now)
 
 pub returns-then-not-deadline_sound : goal.returns-then-not-deadline_sound
 unfolding deadlines_fit
@@ -23,25 +23,17 @@ returns-then-not-deadline_sound c =
     let a = c.args in
     let tests = fits a.homes.now a.rooms a.timed a.seen a.q.now in
     rw (
-      all-not max_clients tests c.loop-c.c (omega arith)
+      all-not max_clients tests c.loop-c.c (omega (arith, c.requires.0))
           (sym c.deadline_sound.ensures ∙ c.if-not-deadline_sound.true),
       and-false (eqb (length a.q.now) max_clients),
     )
 
-pub overflow_add-c : goal.overflow_add-c
-overflow_add-c c = omega arith
-
-pub loop-c-smaller : goal.loop-c-smaller
-loop-c-smaller c = omega arith
-
 pub loop-c-preserved : goal.loop-c-preserved
 loop-c-preserved c =
     let a = c.args in
-    let tests = fits a.homes.now a.rooms a.timed a.seen a.q.now in (
-      omega arith,
-      all_more c.loop-c.c tests
-          (sym c.deadline_sound.ensures ∙ c.if-not-deadline_sound.false) c.loop-c.invariant.1,
-    )
+    let tests = fits a.homes.now a.rooms a.timed a.seen a.q.now in
+    all_more c.loop-c.c tests
+    (sym c.deadline_sound.ensures ∙ c.if-not-deadline_sound.false) c.loop-c.invariant
 
 pub returns : goal.returns
 unfolding deadlines_fit
@@ -50,5 +42,5 @@ returns c =
     let tests = fits a.homes.now a.rooms a.timed a.seen a.q.now in
     rw (
       eq-eqb (length a.q.now) max_clients c.requires.0,
-      all_done max_clients c.loop-c.c tests (omega arith) (omega arith) c.loop-c.invariant.1,
+      all_done max_clients c.loop-c.c tests (omega (arith, c.requires.0)) (omega (arith, c.requires.0)) c.loop-c.invariant,
     )

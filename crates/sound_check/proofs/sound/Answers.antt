@@ -16,7 +16,8 @@ use Rattle.gate.specs.Shown.{setup_of, server_of}
 use Rattle.parts.specs.Shows.{Homes}
 use Rattle.soundness.specs.Clauses.{setup_sound, sound_of}
 use Rattle.setup_check.specs.declared.Clients.{Clients}
-use Rattle.standing.specs.Answers.{seen_of, lines_seen, queue_seen, rooms_fit}
+use Rattle.seen.specs.Seen.{seen_of, queue_seen}
+use Rattle.standing.specs.Answers.{lines_seen, rooms_fit}
 use Rattle.fronts.specs.Answers.{firsts_of, global_fits, queued_of, server_fits}
 use Rattle.setup_check.proofs.Members.{clients}
 use Rattle.sound_check.proofs.Rest.{Lengths, passes, fails, accounts_fit, rest_fits}
@@ -63,7 +64,7 @@ pub clients_below-clients-requires : goal.clients_below-clients-requires
 clients_below-clients-requires c =
     let ok : setup_sound c.args.g.setup ≡ true = sym c.setup_sound.ensures ∙ c.if-not-setup_sound.false in
     let homes : Homes c.args.g.setup.homes = record { rows = search rules; low = (fine c.args.g ok).homes } in
-    (omega (arith, c.wide.ensures, (fine c.args.g ok).clients), homes)
+    (omega (arith, c.from.ensures, (fine c.args.g ok).clients), homes)
 
 pub returns-in_default : goal.returns-in_default
 returns-in_default c =
@@ -71,7 +72,7 @@ returns-in_default c =
     let n : Lengths c.args.g =
     record { background = search rules; global = search rules; charges = search rules; deadlines = search rules } in
     let same : c.clients_below-clients.result ≡ clients c.args.g.setup (fine c.args.g ok) =
-    rw c.wide.ensures at c.clients_below-clients.ensures in
+    rw c.from.ensures at c.clients_below-clients.ensures in
     sym (by_lines c.args.g ok n c.clients_below-clients.result same
     (sym (ap seen_of c.in_default.is) ∙ c.lines_seen.ensures))
 
@@ -81,8 +82,8 @@ returns-in_default-queue_seen c =
     let n : Lengths c.args.g =
     record { background = search rules; global = search rules; charges = search rules; deadlines = search rules } in
     let same : c.clients_below-clients.result ≡ clients c.args.g.setup (fine c.args.g ok) =
-    rw c.wide.ensures at c.clients_below-clients.ensures in
-    let p = sym (ap seen_of c.in-Once.is) ∙ c.lines_seen.ensures in
+    rw c.from.ensures at c.clients_below-clients.ensures in
+    let p = sym (ap seen_of c.in-Some.is) ∙ c.lines_seen.ensures in
     sym (by-queue c.args.g ok n c.clients_below-clients.result same p
     (sym (ap seen_of c.in_default-queue_seen.is) ∙ c.queue_seen.ensures))
 
@@ -92,9 +93,9 @@ returns-then-not-rooms_sound c =
     let n : Lengths c.args.g =
     record { background = search rules; global = search rules; charges = search rules; deadlines = search rules } in
     let same : c.clients_below-clients.result ≡ clients c.args.g.setup (fine c.args.g ok) =
-    rw c.wide.ensures at c.clients_below-clients.ensures in
-    let p = sym (ap seen_of c.in-Once.is) ∙ c.lines_seen.ensures in
-    let q = sym (ap seen_of c.in-Once-queue_seen.is) ∙ c.queue_seen.ensures in
+    rw c.from.ensures at c.clients_below-clients.ensures in
+    let p = sym (ap seen_of c.in-Some.is) ∙ c.lines_seen.ensures in
+    let q = sym (ap seen_of c.in-Some-queue_seen.is) ∙ c.queue_seen.ensures in
     sym (by-sets c.args.g ok n c.clients_below-clients.result same p q refl refl
     ∙ fails c.rooms_sound.ensures c.if-not-rooms_sound.true _)
 
@@ -110,9 +111,9 @@ returns-then-not-global_sound c =
     let n : Lengths c.args.g =
     record { background = search rules; global = search rules; charges = search rules; deadlines = search rules } in
     let same : c.clients_below-clients.result ≡ clients c.args.g.setup (fine c.args.g ok) =
-    rw c.wide.ensures at c.clients_below-clients.ensures in
-    let p = sym (ap seen_of c.in-Once.is) ∙ c.lines_seen.ensures in
-    let q = sym (ap seen_of c.in-Once-queue_seen.is) ∙ c.queue_seen.ensures in
+    rw c.from.ensures at c.clients_below-clients.ensures in
+    let p = sym (ap seen_of c.in-Some.is) ∙ c.lines_seen.ensures in
+    let q = sym (ap seen_of c.in-Some-queue_seen.is) ∙ c.queue_seen.ensures in
     let rooms = sym c.rooms_sound.ensures ∙ c.if-not-rooms_sound.false in
     sym (by-sets c.args.g ok n c.clients_below-clients.result same p q c.firsts-first.ensures c.queued-queue.ensures
     ∙ passes refl rooms ∙ fails c.global_sound.ensures c.if-not-global_sound.true _)
@@ -129,9 +130,9 @@ returns-then-not-server_sound c =
     let n : Lengths c.args.g =
     record { background = search rules; global = search rules; charges = search rules; deadlines = search rules } in
     let same : c.clients_below-clients.result ≡ clients c.args.g.setup (fine c.args.g ok) =
-    rw c.wide.ensures at c.clients_below-clients.ensures in
-    let p = sym (ap seen_of c.in-Once.is) ∙ c.lines_seen.ensures in
-    let q = sym (ap seen_of c.in-Once-queue_seen.is) ∙ c.queue_seen.ensures in
+    rw c.from.ensures at c.clients_below-clients.ensures in
+    let p = sym (ap seen_of c.in-Some.is) ∙ c.lines_seen.ensures in
+    let q = sym (ap seen_of c.in-Some-queue_seen.is) ∙ c.queue_seen.ensures in
     let rooms = sym c.rooms_sound.ensures ∙ c.if-not-rooms_sound.false in
     let queued = sym c.global_sound.ensures ∙ c.if-not-global_sound.false in
     sym (by-global c.args.g ok n c.clients_below-clients.result same p q c.firsts-first.ensures c.queued-queue.ensures
@@ -143,14 +144,14 @@ returns-then-g-cap c =
     let n : Lengths c.args.g =
     record { background = search rules; global = search rules; charges = search rules; deadlines = search rules } in
     let same : c.clients_below-clients.result ≡ clients c.args.g.setup (fine c.args.g ok) =
-    rw c.wide.ensures at c.clients_below-clients.ensures in
-    let p = sym (ap seen_of c.in-Once.is) ∙ c.lines_seen.ensures in
-    let q = sym (ap seen_of c.in-Once-queue_seen.is) ∙ c.queue_seen.ensures in
+    rw c.from.ensures at c.clients_below-clients.ensures in
+    let p = sym (ap seen_of c.in-Some.is) ∙ c.lines_seen.ensures in
+    let q = sym (ap seen_of c.in-Some-queue_seen.is) ∙ c.queue_seen.ensures in
     let rooms = sym c.rooms_sound.ensures ∙ c.if-not-rooms_sound.false in
     let queued = sym c.global_sound.ensures ∙ c.if-not-global_sound.false in
     let server = sym c.server_sound.ensures ∙ c.if-not-server_sound.false in
     sym (by-server c.args.g ok n c.clients_below-clients.result same p q c.firsts-first.ensures c.queued-queue.ensures
-    rooms queued server c.cap_of-cap.ensures
+    rooms queued server (c.from-cap.ensures ∙ c.cap_of.ensures)
     ∙ fails refl (lt-leb _ _ c.if-g-cap.true) _)
 
 pub returns-then-not-charges_sound : goal.returns-then-not-charges_sound
@@ -159,14 +160,14 @@ returns-then-not-charges_sound c =
     let n : Lengths c.args.g =
     record { background = search rules; global = search rules; charges = search rules; deadlines = search rules } in
     let same : c.clients_below-clients.result ≡ clients c.args.g.setup (fine c.args.g ok) =
-    rw c.wide.ensures at c.clients_below-clients.ensures in
-    let p = sym (ap seen_of c.in-Once.is) ∙ c.lines_seen.ensures in
-    let q = sym (ap seen_of c.in-Once-queue_seen.is) ∙ c.queue_seen.ensures in
+    rw c.from.ensures at c.clients_below-clients.ensures in
+    let p = sym (ap seen_of c.in-Some.is) ∙ c.lines_seen.ensures in
+    let q = sym (ap seen_of c.in-Some-queue_seen.is) ∙ c.queue_seen.ensures in
     let rooms = sym c.rooms_sound.ensures ∙ c.if-not-rooms_sound.false in
     let queued = sym c.global_sound.ensures ∙ c.if-not-global_sound.false in
     let server = sym c.server_sound.ensures ∙ c.if-not-server_sound.false in
     sym (by-server c.args.g ok n c.clients_below-clients.result same p q c.firsts-first.ensures c.queued-queue.ensures
-    rooms queued server c.cap_of-cap.ensures
+    rooms queued server (c.from-cap.ensures ∙ c.cap_of.ensures)
     ∙ passes refl (le-leb _ _ c.if-g-cap.false) ∙ fails c.charges_sound.ensures c.if-not-charges_sound.true _)
 
 pub deadlines_sound-requires : goal.deadlines_sound-requires
@@ -181,13 +182,13 @@ returns c =
     let n : Lengths c.args.g =
     record { background = search rules; global = search rules; charges = search rules; deadlines = search rules } in
     let same : c.clients_below-clients.result ≡ clients c.args.g.setup (fine c.args.g ok) =
-    rw c.wide.ensures at c.clients_below-clients.ensures in
-    let p = sym (ap seen_of c.in-Once.is) ∙ c.lines_seen.ensures in
-    let q = sym (ap seen_of c.in-Once-queue_seen.is) ∙ c.queue_seen.ensures in
+    rw c.from.ensures at c.clients_below-clients.ensures in
+    let p = sym (ap seen_of c.in-Some.is) ∙ c.lines_seen.ensures in
+    let q = sym (ap seen_of c.in-Some-queue_seen.is) ∙ c.queue_seen.ensures in
     let rooms = sym c.rooms_sound.ensures ∙ c.if-not-rooms_sound.false in
     let queued = sym c.global_sound.ensures ∙ c.if-not-global_sound.false in
     let server = sym c.server_sound.ensures ∙ c.if-not-server_sound.false in
     sym (by-server c.args.g ok n c.clients_below-clients.result same p q c.firsts-first.ensures c.queued-queue.ensures
-    rooms queued server c.cap_of-cap.ensures
+    rooms queued server (c.from-cap.ensures ∙ c.cap_of.ensures)
     ∙ passes refl (le-leb _ _ c.if-g-cap.false) ∙ passes c.charges_sound.ensures c.if-not-charges_sound.false
     ∙ sym c.deadlines_sound.ensures)
