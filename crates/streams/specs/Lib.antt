@@ -1,3 +1,3 @@
--- What a read may give, and what an input that was read whole leaves. Nothing is proved here.
-pub mod Got
-pub mod Whole
+-- What a read does to an input, and what is said of a failure. Nothing is proved here.
+pub mod Failures
+pub mod Reads
