@@ -12,7 +12,7 @@ ghost use Rattle.form.specs.Output.{line, line_bytes};
 ghost use Rattle.form.specs.Parts.{room_bytes, none_held, standing, Answered, EndAnswered};
 
 use line::put_answer;
-use text::{CR, LF, least};
+use text::{CR, LF};
 
 // The most bytes of a part.
 pub const PART: usize = 4096;
@@ -49,9 +49,9 @@ pub fn answer_part(held: Held, part: &[u8; PART], k: usize, out: &mut [u8; OUT])
         out.old 0 out.new (standing result) }
 {
     let mut room = held.room;
-    let n = least(held.n, ROOM);
+    let n = held.n.min(ROOM);
     let bytes: &[u8] = part;
-    let end = least(k, PART);
+    let end = k.min(PART);
     let s = answer_bytes(&bytes[..end], &mut room, n, out);
     Held {
         room,
@@ -66,7 +66,7 @@ pub fn answer_end(held: Held, out: &mut [u8; OUT]) -> usize
     ensures end_answered { EndAnswered (take held.n held.room) out.old out.new result }
 {
     let room = held.room;
-    let n = least(held.n, ROOM);
+    let n = held.n.min(ROOM);
     if n == 0 {
         return 0;
     }
@@ -90,12 +90,10 @@ fn answer_bytes(part: &[u8], room: &mut [u8], n: usize, out: &mut [u8]) -> Stand
 {
     let mut held = n;
     let mut used = 0;
-    let mut i = 0;
-    while i < part.len() {
-        let s = take_byte(part[i], room, held, out, used);
+    for b in part {
+        let s = take_byte(*b, room, held, out, used);
         held = s.n;
         used = s.used;
-        i += 1;
     }
     Standing { n: held, used }
 }

@@ -1,15 +1,32 @@
 -- Lines of text and what they ask for, computed. Each line is written as its bytes, under its text.
 -- Assumes nothing.
+use Rattle.std.specs.Prelude.{Result, Ok, Err}
 use Prim.Native.Nat.{ℕ}
 use mathlib.Core.Path.{◌≡◌, refl}
 use mathlib.Core.List.{List, [], ◌∷◌}
 use lib.ListN.{replicate}
 use Rattle.rules.specs.Quote.{quote}
-use Rattle.quote.specs.declared.Answer.{Answer}
-use Rattle.quote.specs.declared.Answer.TheVariants.{Accepted, FieldOut, OverPeriod, BadLines}
+use Rattle.quote.specs.declared.Refusal.{Refusal}
+use Rattle.quote.specs.declared.Refusal.TheVariants as refusal
 use Rattle.quote.specs.Told.{told}
 use Rattle.numerals.specs.Numbers.{field_of}
 use Rattle.order.specs.Orders.{order_from, values, asked}
+
+-- what an order may be quoted
+abbrev Answer : Type 0
+Answer = Result ℕ Refusal
+
+abbrev Accepted : ℕ → Answer
+Accepted b = Ok b
+
+abbrev FieldOut : ℕ → Answer
+FieldOut at = Err (refusal.FieldOut at)
+
+abbrev OverPeriod : Answer
+OverPeriod = Err refusal.OverPeriod
+
+abbrev BadLines : Answer
+BadLines = Err refusal.BadLines
 
 abbrev Gives : List ℕ → Answer → Type 0
 Gives s a = asked s ≡ told a

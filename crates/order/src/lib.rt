@@ -10,7 +10,7 @@ ghost use Rattle.order.specs.Orders.{max_bytes, asked, values};
 ghost use Rattle.order.specs.Steps.{max_fields, in_column, Column};
 
 use numerals::field_value;
-use quote::{Answer, MAX_LINES};
+use quote::{MAX_LINES, Refusal};
 use text::COMMA;
 
 // The most bytes of an order.
@@ -20,16 +20,16 @@ pub const MAX_BYTES: usize = 1023;
 const MAX_FIELDS: usize = 4 + 3 * MAX_LINES;
 
 // The quote that a line of text asks for: `e,p,m,K,N1,L1,W1,N2,L2,W2,..`, without its line end.
-pub fn ask(s: &[u8]) -> Answer
+pub fn ask(s: &[u8]) -> Result<u64, Refusal>
     ensures { told result ≡ asked s.now }
 {
     if MAX_BYTES < s.len() {
-        return Answer::BadLines;
+        return Err(Refusal::BadLines);
     }
     let mut v = [-1i64; MAX_FIELDS];
     let n = read_fields(s, &mut v);
     if MAX_FIELDS < n {
-        return Answer::BadLines;
+        return Err(Refusal::BadLines);
     }
     let calls = column(&v, 4);
     let caps = column(&v, 5);
@@ -86,11 +86,9 @@ fn column(v: &[i64; MAX_FIELDS], from: usize) -> [i64; MAX_LINES]
     ensures { (length result ≡ max_lines) × Column v.now from result }
 {
     let mut out = [0i64; MAX_LINES];
-    let mut i = 0;
-    while i < MAX_LINES {
+    for i in 0..MAX_LINES {
         let x = v[from + 3 * i];
         out[i] = x;
-        i += 1;
     }
     out
 }

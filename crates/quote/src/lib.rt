@@ -1,7 +1,7 @@
 // The budget quote: what an order of calls may burn of a client's budget, or why the order is refused.
 #![tactic(auto)]
 
-ghost use Rattle.std.specs.Prelude.{◌≡◌, ◌+◌, ◌*◌, ◌≤◌, T, nat_abs, length};
+ghost use Rattle.std.specs.Prelude.{◌≡◌, ◌+◌, ◌*◌, ◌≤◌, ◌<◌, T, nat_abs, length, unwrap_or, IfSome};
 ghost use Rattle.std.specs.Int.Signed.{non_neg};
 ghost use Rattle.rules.specs.Demands.{worst};
 ghost use Rattle.rules.specs.Limits.{max_lines, max_size, max_clusters};
@@ -9,9 +9,9 @@ ghost use Rattle.rules.specs.Quote.{order_of, quote, in_range, lines_fit, first_
 ghost use Rattle.quote.specs.Steps.{fields_out, LineIn, AllFit, most_of_line};
 ghost use Rattle.quote.specs.Told.{told, numbers_of};
 
+// Why an order is refused. A field is told by its place.
 #[derive(Clone, Copy)]
-pub enum Answer {
-    Accepted(u64),
+pub enum Refusal {
     FieldOut(usize),
     OverPeriod,
     BadLines,
@@ -50,26 +50,26 @@ const MAX_CAP: u64 = 65535;
 const MAX_TIDY: u64 = 65535;
 
 // The numbers of an answer.
-pub fn tell(a: Answer) -> Numbers
-    ensures { numbers_of result ≡ told a }
+pub fn tell(quote: Result<u64, Refusal>) -> Numbers
+    ensures { numbers_of result ≡ told quote }
 {
-    match a {
-        Answer::Accepted(budget) => Numbers {
+    match quote {
+        Ok(budget) => Numbers {
             budget,
             answer: ACCEPTED,
             place: 0,
         },
-        Answer::FieldOut(place) => Numbers {
+        Err(Refusal::FieldOut(place)) => Numbers {
             budget: 0,
             answer: FIELD_OUT,
             place,
         },
-        Answer::OverPeriod => Numbers {
+        Err(Refusal::OverPeriod) => Numbers {
             budget: 0,
             answer: OVER_PERIOD,
             place: 0,
         },
-        Answer::BadLines => Numbers {
+        Err(Refusal::BadLines) => Numbers {
             budget: 0,
             answer: BAD_LINES,
             place: 0,
@@ -77,71 +77,89 @@ pub fn tell(a: Answer) -> Numbers
     }
 }
 
-// The budget of an order: own work e, period p, m, K and the columns N, L and W of its server lines.
-pub fn budget(e: i64, p: i64, m: i64, k: i64, calls: &[i64], caps: &[i64], tidies: &[i64]) -> Answer
+// The budget of an order: own work e, period p, m, K and the columns N, L and W of its server lines. (The columns are
+// not one list of lines: document 01 has an answer for columns that differ in length, `bad_lines`.)
+pub fn budget(
+    e: i64,
+    p: i64,
+    m: i64,
+    k: i64,
+    calls: &[i64],
+    caps: &[i64],
+    tidies: &[i64],
+) -> Result<u64, Refusal>
     ensures { told result
         ≡ quote (order_of e p m k calls.now caps.now tidies.now) }
 {
     if MAX_LINES < calls.len() {
-        return Answer::BadLines;
+        return Err(Refusal::BadLines);
     }
     if calls.len() != caps.len() {
-        return Answer::BadLines;
+        return Err(Refusal::BadLines);
     }
     if calls.len() != tidies.len() {
-        return Answer::BadLines;
+        return Err(Refusal::BadLines);
     }
-    let place = first_out(e, p, m, k, calls, caps, tidies);
-    if place < 4 + 3 * calls.len() {
-        return Answer::FieldOut(place);
+    if let Some(place) = first_out(e, p, m, k, calls, caps, tidies) {
+        return Err(Refusal::FieldOut(place));
     }
     let sum = whole(e) + lines_burn(whole(m), whole(k), calls, caps, tidies);
     if sum <= whole(p) {
-        Answer::Accepted(sum)
+        Ok(sum)
     } else {
-        Answer::OverPeriod
+        Err(Refusal::OverPeriod)
     }
 }
 
-// The place of the first field that is out of its range, and past the last place if there is none.
-fn first_out(e: i64, p: i64, m: i64, k: i64, calls: &[i64], caps: &[i64], tidies: &[i64]) -> usize
+// The place of the first field that is out of its range, if there is one.
+fn first_out(
+    e: i64,
+    p: i64,
+    m: i64,
+    k: i64,
+    calls: &[i64],
+    caps: &[i64],
+    tidies: &[i64],
+) -> Option<usize>
     requires { Even calls.now caps.now tidies.now × (length calls.now ≤ max_lines) }
-    ensures { result ≡ fields_out (order_of e p m k calls.now caps.now tidies.now) }
+    ensures place { unwrap_or result (4 + 3 * length calls.now)
+        ≡ fields_out (order_of e p m k calls.now caps.now tidies.now) }
+    ensures within { IfSome result (λ place. place < 4 + 3 * length calls.now) }
 {
     if !in_range(e, 1, MAX_WORK) {
-        return 0;
+        return Some(0);
     }
     if !in_range(p, 1, MAX_PERIOD) {
-        return 1;
+        return Some(1);
     }
     if !in_range(m, 1, MAX_SIZE) {
-        return 2;
+        return Some(2);
     }
     if !in_range(k, 1, MAX_CLUSTERS) {
-        return 3;
+        return Some(3);
     }
     lines_out(calls, caps, tidies)
 }
 
 // The same from the lines on: 4 + 3i for N of line i, 5 + 3i for its L, 6 + 3i for its W.
-fn lines_out(calls: &[i64], caps: &[i64], tidies: &[i64]) -> usize
+fn lines_out(calls: &[i64], caps: &[i64], tidies: &[i64]) -> Option<usize>
     requires { Even calls.now caps.now tidies.now × (length calls.now ≤ max_lines) }
-    ensures { result ≡ 4 + first_false (lines_fit calls.now caps.now tidies.now) }
+    ensures place { unwrap_or result (4 + 3 * length calls.now)
+        ≡ 4 + first_false (lines_fit calls.now caps.now tidies.now) }
+    ensures within { IfSome result (λ place. place < 4 + 3 * length calls.now) }
 {
-    let mut i = 0;
-    while i < calls.len() {
+    for i in 0..calls.len() {
         if !in_range(calls[i], 0, MAX_CALLS) {
-            return 4 + 3 * i;
+            return Some(4 + 3 * i);
         }
         if !in_range(caps[i], 1, MAX_CAP) {
-            return 5 + 3 * i;
+            return Some(5 + 3 * i);
         }
         if !in_range(tidies[i], 0, MAX_TIDY) {
-            return 6 + 3 * i;
+            return Some(6 + 3 * i);
         }
-        i += 1;
     }
-    4 + 3 * i
+    None
 }
 
 // The sum over lines of N(2 + 2mK)(L + W).
@@ -152,10 +170,8 @@ fn lines_burn(m: u64, k: u64, calls: &[i64], caps: &[i64], tidies: &[i64]) -> u6
     ensures upper_bound { result ≤ max_lines * most_of_line }
 {
     let mut sum: u64 = 0;
-    let mut i = 0;
-    while i < calls.len() {
+    for i in 0..calls.len() {
         sum += line_burns(m, k, calls[i], caps[i], tidies[i]);
-        i += 1;
     }
     sum
 }
@@ -180,10 +196,7 @@ fn in_range(x: i64, low: u64, high: u64) -> bool
         return false;
     }
     let n = whole(x);
-    if n < low {
-        return false;
-    }
-    n <= high
+    low <= n && n <= high
 }
 
 fn whole(x: i64) -> u64

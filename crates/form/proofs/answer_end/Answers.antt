@@ -14,14 +14,14 @@ use Rattle.form.proofs.answer_end.Goals as goal
 
 pub returns-then-n-eq0 : goal.returns-then-n-eq0
 returns-then-n-eq0 c = let a = c.args in
-    let none : a.held.n ≡ 0 = omega (arith, c.least-n.ensures, c.if-n-eq0.true) in
+    let none : a.held.n ≡ 0 = omega (arith, c.min-n.ensures, c.if-n-eq0.true) in
     record { prefix_len = omega arith; end_answered = rw none (end_none a.out.now) }
 
 pub answer-requires : goal.answer-requires
 answer-requires c =
     let all : length c.args.held.room ≡ room_bytes = search rules in
     record {
-      n_in_bounds = omega (arith, c.least-n.ensures, all);
+      n_in_bounds = omega (arith, c.min-n.ensures, all);
       line_bytes_in_bounds = omega (arith, c.answer-arg-1.given.0.1);
     }
 
@@ -31,18 +31,18 @@ returns c =
     let w = c.answer in
     let a = c.args in
     let room = a.held.room in
-    let held : take c.least-n.result room ≡ take a.held.n room
-    = ap (λ (k : ℕ). take k room) (c.least-n.ensures ∙ ap (λ (k : ℕ). min a.held.n k) (sym (all)))
+    let held : take c.min-n.result room ≡ take a.held.n room
+    = ap (λ (k : ℕ). take k room) (c.min-n.ensures ∙ ap (λ (k : ℕ). min a.held.n k) (sym (all)))
     ∙ take-least a.held.n room in
-    let some : 0 < length (take c.least-n.result room)
+    let some : 0 < length (take c.min-n.result room)
     = omega (
       arith,
-      length-take-le c.least-n.result room (omega (arith, c.least-n.ensures, all)),
+      length-take-le c.min-n.result room (omega (arith, c.min-n.ensures, all)),
       c.if-n-eq0.false,
     ) in
     let fits : w.result ≤ length w.new.out = omega (arith, w.ensures.upper_bound, w.auto) in record {
       prefix_len = (fits, sym (length-take-le w.result w.new.out fits));
       end_answered =
           subst (λ (h : List ℕ). EndAnswered h a.out.now w.new.out w.result) held
-          (end-some (take c.least-n.result room) a.out.now w.new.out w.result some w.ensures.wrote_at);
+          (end-some (take c.min-n.result room) a.out.now w.new.out w.result some w.ensures.wrote_at);
     }

@@ -14,21 +14,21 @@ use Rattle.form.proofs.answer_part.Goals as goal
 
 pub slice_bounds-answer_bytes-end : goal.slice_bounds-answer_bytes-end
 slice_bounds-answer_bytes-end c =
-    let there : c.least-end.result ≤ length c.args.part.now = omega (arith, c.least-end.ensures, c.bytes-1.given) in
-    sym (length-take-le c.least-end.result c.args.part.now there)
+    let there : c.min-end.result ≤ length c.args.part.now = omega (arith, c.min-end.ensures, c.bytes-1.given) in
+    sym (length-take-le c.min-end.result c.args.part.now there)
 
 pub answer_bytes-s-requires : goal.answer_bytes-s-requires
 answer_bytes-s-requires c =
     let all : length c.args.held.room ≡ room_bytes = search rules in
-    let there : c.least-end.result ≤ length c.args.part.now = omega (arith, c.least-end.ensures, c.bytes-1.given) in
+    let there : c.min-end.result ≤ length c.args.part.now = omega (arith, c.min-end.ensures, c.bytes-1.given) in
     let part = c.args.part.now in
-    let n = c.least-n in
+    let n = c.min-n in
     let few : n.result ≤ room_bytes = omega (arith, n.ensures) in record {
       room_len = (all, few);
       line_bytes_in_bounds = omega (
         arith,
-        length-take-le c.least-end.result part there,
-        c.least-end.ensures,
+        length-take-le c.min-end.result part there,
+        c.min-end.ensures,
         c.answer_bytes-arg-1.given,
       );
     }
@@ -39,14 +39,14 @@ returns c =
     let r = c.answer_bytes-s in
     let a = c.args in
     let part = a.part.now in
-    let first = take c.least-end.result part in
+    let first = take c.min-end.result part in
     let bytes : first ≡ take a.k part
-    = ap (λ (n : ℕ). take n part) (c.least-end.ensures ∙ ap (λ (n : ℕ). min a.k n) (sym c.bytes-1.given))
+    = ap (λ (n : ℕ). take n part) (c.min-end.ensures ∙ ap (λ (n : ℕ). min a.k n) (sym c.bytes-1.given))
     ∙ take-least a.k part in
     let held : Answered first a.held.room (min a.held.n room_bytes) r.new.room a.out.now 0
     r.new.out r.result
     = subst (λ (n : ℕ). Answered first a.held.room n r.new.room a.out.now 0 r.new.out
-    r.result) c.least-n.ensures r.ensures.answered in
+    r.result) c.min-n.ensures r.ensures.answered in
     let fits : r.result.used ≤ length r.new.out = omega (arith, r.ensures.used_in_bounds, r.auto.out) in record {
       prefix_len = (fits, sym (length-take-le r.result.used r.new.out fits));
       answered =

@@ -57,22 +57,23 @@ returns-then-calls-tidies c =
     let o = order_of a.e a.p a.m a.k a.calls.now a.caps.now a.tidies.now in
     sym (tidies-uneven o c.if-calls-gt-MAX_LINES.false c.if-calls-caps.false c.if-calls-tidies.true)
 
-pub returns-then-place-calls : goal.returns-then-place-calls
-returns-then-place-calls c =
+pub returns-in-Some : goal.returns-in-Some
+returns-in-Some c =
     let a = c.args in
     let r = c.ranges in
     let o = order_of a.e a.p a.m a.k a.calls.now a.caps.now a.tidies.now in
     let p = placed a.e a.p a.m a.k a.calls.now a.caps.now a.tidies.now r.e.sfits r.p.sfits r.m.sfits r.k.sfits
-    c.first_out-place.ensures in
+    c.in-Some.ensures.place in
     let even : Even a.calls.now a.caps.now a.tidies.now = (c.if-calls-caps.false, c.if-calls-tidies.false) in
-    rw p (sym (field-out o c.if-calls-gt-MAX_LINES.false even (rw p at c.if-place-calls.true)))
+    let within = c.in-Some.ensures.within in
+    rw p (sym (field-out o c.if-calls-gt-MAX_LINES.false even (rw p at within)))
 
 pub whole-requires : goal.whole-requires
 whole-requires c =
     let a = c.args in
     let r = c.ranges in
     let all = fields_in a.e a.p a.m a.k a.calls.now a.caps.now a.tidies.now r.e.sfits r.p.sfits r.m.sfits r.k.sfits
-    c.first_out-place.ensures (c.if-calls-caps.false, c.if-calls-tidies.false) c.if-place-calls.false in
+    c.in_default.ensures.place (c.if-calls-caps.false, c.if-calls-tidies.false) (omega arith) in
     rw (read_back a.e r.e.sfits) all.work.sign
 
 pub whole-requires-2 : goal.whole-requires-2
@@ -80,7 +81,7 @@ whole-requires-2 c =
     let a = c.args in
     let r = c.ranges in
     let all = fields_in a.e a.p a.m a.k a.calls.now a.caps.now a.tidies.now r.e.sfits r.p.sfits r.m.sfits r.k.sfits
-    c.first_out-place.ensures (c.if-calls-caps.false, c.if-calls-tidies.false) c.if-place-calls.false in
+    c.in_default.ensures.place (c.if-calls-caps.false, c.if-calls-tidies.false) (omega arith) in
     rw (read_back a.m r.m.sfits) all.size.sign
 
 pub whole-requires-3 : goal.whole-requires-3
@@ -88,7 +89,7 @@ whole-requires-3 c =
     let a = c.args in
     let r = c.ranges in
     let all = fields_in a.e a.p a.m a.k a.calls.now a.caps.now a.tidies.now r.e.sfits r.p.sfits r.m.sfits r.k.sfits
-    c.first_out-place.ensures (c.if-calls-caps.false, c.if-calls-tidies.false) c.if-place-calls.false in
+    c.in_default.ensures.place (c.if-calls-caps.false, c.if-calls-tidies.false) (omega arith) in
     rw (read_back a.k r.k.sfits) all.clusters.sign
 
 pub lines_burn-requires : goal.lines_burn-requires
@@ -96,7 +97,7 @@ lines_burn-requires c =
     let a = c.args in
     let r = c.ranges in
     let all = fields_in a.e a.p a.m a.k a.calls.now a.caps.now a.tidies.now r.e.sfits r.p.sfits r.m.sfits r.k.sfits
-    c.first_out-place.ensures (c.if-calls-caps.false, c.if-calls-tidies.false) c.if-place-calls.false in
+    c.in_default.ensures.place (c.if-calls-caps.false, c.if-calls-tidies.false) (omega arith) in
     record {
       m_le_max_size = (
         omega (arith, whole_of a.m r.m.sfits c.whole-2.ensures, all.size.most),
@@ -110,7 +111,7 @@ overflow_add-sum c =
     let a = c.args in
     let r = c.ranges in
     let all = fields_in a.e a.p a.m a.k a.calls.now a.caps.now a.tidies.now r.e.sfits r.p.sfits r.m.sfits r.k.sfits
-    c.first_out-place.ensures (c.if-calls-caps.false, c.if-calls-tidies.false) c.if-place-calls.false in
+    c.in_default.ensures.place (c.if-calls-caps.false, c.if-calls-tidies.false) (omega arith) in
     omega (arith, whole_of a.e r.e.sfits c.whole.ensures, all.work.most, c.lines_burn.ensures.upper_bound)
 
 pub whole-requires-4 : goal.whole-requires-4
@@ -118,7 +119,7 @@ whole-requires-4 c =
     let a = c.args in
     let r = c.ranges in
     let all = fields_in a.e a.p a.m a.k a.calls.now a.caps.now a.tidies.now r.e.sfits r.p.sfits r.m.sfits r.k.sfits
-    c.first_out-place.ensures (c.if-calls-caps.false, c.if-calls-tidies.false) c.if-place-calls.false in
+    c.in_default.ensures.place (c.if-calls-caps.false, c.if-calls-tidies.false) (omega arith) in
     rw (read_back a.p r.p.sfits) all.period.sign
 
 -- the sum is the budget of the rules, and what it is compared with is the period
@@ -129,7 +130,7 @@ returns-then-sum-whole c =
     let o = order_of a.e a.p a.m a.k a.calls.now a.caps.now a.tidies.now in
     let even : Even a.calls.now a.caps.now a.tidies.now = (c.if-calls-caps.false, c.if-calls-tidies.false) in
     let last = last-place a.e a.p a.m a.k a.calls.now a.caps.now a.tidies.now r.e.sfits r.p.sfits r.m.sfits r.k.sfits
-    c.first_out-place.ensures even c.if-place-calls.false in
+    c.in_default.ensures.place even (omega arith) in
     let summed : c.whole.result + c.lines_burn.result ≡ budget_of o =
     total o (whole_of a.e r.e.sfits c.whole.ensures) (whole_of a.m r.m.sfits c.whole-2.ensures)
     (whole_of a.k r.k.sfits c.whole-3.ensures) c.lines_burn.ensures.value in
@@ -144,7 +145,7 @@ returns-else-sum-whole c =
     let o = order_of a.e a.p a.m a.k a.calls.now a.caps.now a.tidies.now in
     let even : Even a.calls.now a.caps.now a.tidies.now = (c.if-calls-caps.false, c.if-calls-tidies.false) in
     let last = last-place a.e a.p a.m a.k a.calls.now a.caps.now a.tidies.now r.e.sfits r.p.sfits r.m.sfits r.k.sfits
-    c.first_out-place.ensures even c.if-place-calls.false in
+    c.in_default.ensures.place even (omega arith) in
     let summed : c.whole.result + c.lines_burn.result ≡ budget_of o =
     total o (whole_of a.e r.e.sfits c.whole.ensures) (whole_of a.m r.m.sfits c.whole-2.ensures)
     (whole_of a.k r.k.sfits c.whole-3.ensures) c.lines_burn.ensures.value in

@@ -24,27 +24,6 @@ burns c = let a = c.args in
     let w = read_back (at a.tidies.now i) c.line_burns-arg-in-loop-i-2-1.given in
     c.line_burns-sum.ensures.value ∙ rw (n, l, w)
 
-pub loop-i-init : goal.loop-i-init
-loop-i-init c = omega arith
-
-pub offset_bounds-calls-i : goal.offset_bounds-calls-i
-offset_bounds-calls-i c = omega arith
-
-pub bounds-calls-i : goal.bounds-calls-i
-bounds-calls-i c = omega arith
-
-pub offset_bounds-caps-i : goal.offset_bounds-caps-i
-offset_bounds-caps-i c = omega arith
-
-pub bounds-caps-i : goal.bounds-caps-i
-bounds-caps-i c = omega arith
-
-pub offset_bounds-tidies-i : goal.offset_bounds-tidies-i
-offset_bounds-tidies-i c = omega arith
-
-pub bounds-tidies-i : goal.bounds-tidies-i
-bounds-tidies-i c = omega arith
-
 pub line_burns-sum-requires : goal.line_burns-sum-requires
 line_burns-sum-requires c = let i = c.loop-i.i in
     let calls = c.args.calls.now in
@@ -58,15 +37,6 @@ line_burns-sum-requires c = let i = c.loop-i.i in
         tidy = same-range 0 max_tidy (at tidies i) c.line_burns-arg-in-loop-i-2-1.given ∙ l.tidy;
       };
     }
-
-pub overflow_add-sum : goal.overflow_add-sum
-overflow_add-sum c = omega arith
-
-pub overflow_add-i : goal.overflow_add-i
-overflow_add-i c = omega arith
-
-pub loop-i-smaller : goal.loop-i-smaller
-loop-i-smaller c = omega arith
 
 pub loop-i-preserved : goal.loop-i-preserved
 loop-i-preserved c = let a = c.args in

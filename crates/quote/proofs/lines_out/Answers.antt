@@ -9,23 +9,8 @@ use Rattle.quote.proofs.Ranges.{told-out, told-in}
 use Rattle.quote.proofs.Lines.{at, calls-out, cap-out, tidy-out, all-three-in, none_out}
 use Rattle.quote.proofs.lines_out.Goals as goal
 
-pub loop-i-init : goal.loop-i-init
-loop-i-init c = omega arith
-
-pub offset_bounds-calls-i : goal.offset_bounds-calls-i
-offset_bounds-calls-i c = omega arith
-
-pub bounds-calls-i : goal.bounds-calls-i
-bounds-calls-i c = omega arith
-
-pub overflow_mul-result : goal.overflow_mul-result
-overflow_mul-result c = omega arith
-
-pub overflow_add-result : goal.overflow_add-result
-overflow_add-result c = omega arith
-
-pub returns-then-not-in_range : goal.returns-then-not-in_range
-returns-then-not-in_range c =
+pub returns-then-not-in_range-clause-place : goal.returns-then-not-in_range-clause-place
+returns-then-not-in_range-clause-place c =
     let a = c.args in
     let r = c.in_range in
     let x = at a.calls.now c.loop-i.i in
@@ -35,20 +20,8 @@ returns-then-not-in_range c =
       calls-out a.calls.now a.caps.now a.tidies.now c.loop-i.i (omega arith) c.requires.0 n,
     )
 
-pub offset_bounds-caps-i : goal.offset_bounds-caps-i
-offset_bounds-caps-i c = omega arith
-
-pub bounds-caps-i : goal.bounds-caps-i
-bounds-caps-i c = omega arith
-
-pub overflow_mul-result-then-not-in_range-2 : goal.overflow_mul-result-then-not-in_range-2
-overflow_mul-result-then-not-in_range-2 c = omega arith
-
-pub overflow_add-result-then-not-in_range-2 : goal.overflow_add-result-then-not-in_range-2
-overflow_add-result-then-not-in_range-2 c = omega arith
-
-pub returns-then-not-in_range-2 : goal.returns-then-not-in_range-2
-returns-then-not-in_range-2 c =
+pub returns-then-not-in_range-2-clause-place : goal.returns-then-not-in_range-2-clause-place
+returns-then-not-in_range-2-clause-place c =
     let a = c.args in
     let r = c.in_range-in-loop-i in
     let n = told-in 0 max_calls (at a.calls.now c.loop-i.i) c.in_range-arg-1.given c.in_range.result c.in_range.ensures
@@ -61,20 +34,8 @@ returns-then-not-in_range-2 c =
       cap-out a.calls.now a.caps.now a.tidies.now c.loop-i.i (omega arith) c.requires.0 n y,
     )
 
-pub offset_bounds-tidies-i : goal.offset_bounds-tidies-i
-offset_bounds-tidies-i c = omega arith
-
-pub bounds-tidies-i : goal.bounds-tidies-i
-bounds-tidies-i c = omega arith
-
-pub overflow_mul-result-then-not-in_range-3 : goal.overflow_mul-result-then-not-in_range-3
-overflow_mul-result-then-not-in_range-3 c = omega arith
-
-pub overflow_add-result-then-not-in_range-3 : goal.overflow_add-result-then-not-in_range-3
-overflow_add-result-then-not-in_range-3 c = omega arith
-
-pub returns-then-not-in_range-3 : goal.returns-then-not-in_range-3
-returns-then-not-in_range-3 c =
+pub returns-then-not-in_range-3-clause-place : goal.returns-then-not-in_range-3-clause-place
+returns-then-not-in_range-3-clause-place c =
     let a = c.args in
     let r = c.in_range-in-loop-i-2 in
     let n = told-in 0 max_calls (at a.calls.now c.loop-i.i) c.in_range-arg-1.given c.in_range.result c.in_range.ensures
@@ -89,12 +50,6 @@ returns-then-not-in_range-3 c =
       arith,
       tidy-out a.calls.now a.caps.now a.tidies.now c.loop-i.i (omega arith) even n l y,
     )
-
-pub overflow_add-i : goal.overflow_add-i
-overflow_add-i c = omega arith
-
-pub loop-i-smaller : goal.loop-i-smaller
-loop-i-smaller c = omega arith
 
 pub loop-i-preserved : goal.loop-i-preserved
 loop-i-preserved c =
@@ -114,12 +69,6 @@ loop-i-preserved c =
           (record { calls = n; cap = l; tidy = y }),
     )
 
-pub overflow_mul-result-2 : goal.overflow_mul-result-2
-overflow_mul-result-2 c = omega arith
-
-pub overflow_add-result-2 : goal.overflow_add-result-2
-overflow_add-result-2 c = omega arith
-
-pub returns : goal.returns
-returns c = let a = c.args in
+pub returns-clause-place : goal.returns-clause-place
+returns-clause-place c = let a = c.args in
     omega (arith, none_out a.calls.now a.caps.now a.tidies.now c.loop-i.i (omega arith))

@@ -19,7 +19,7 @@ returns c =
     let start = c.args in
     let budget = decimal c.tell-q.result.budget in
     let answer = decimal c.tell-q.result.answer in
-    let place = decimal c.wide_size.result in
+    let place = decimal c.tell-q.result.place in
     let w = c.put_number-i.ensures.wrote_at in
     let w = wrote_on w (omega arith) c.put_byte-j.ensures in
     let w = wrote_on w (omega arith) c.put_number-k.ensures.wrote_at in
@@ -27,7 +27,6 @@ returns c =
     let w = wrote_on w (omega arith) c.put_number-m.ensures.wrote_at in
     let w = wrote_on w (omega arith) c.put_byte.ensures in
     let text = joined budget answer place
-    ∙ ap (λ (n : ℕ). budget ++ space ∷ answer ++ space ∷ decimal n ++ lf ∷ []) c.wide_size.ensures
     ∙ ap line c.tell-q.ensures in record {
       wrote_at =
           subst (λ (x : List ℕ). WroteAt start.at x start.out.now c.put_byte.new.out c.put_byte.result) text w;
