@@ -2,47 +2,38 @@
 // `differs ENTRY answer`, `differs ENTRY served`, `differs ENTRY charges` or `accepted ENTRIES`.
 #![tactic(auto)]
 
-use std::io::Write;
-use streams::Got;
+use std::io::{Read, Write};
+use streams::{Failure, read_some, write_out};
 use traces::{Held, LINE, PART};
 use tracing::is_decided;
 
 fn main(rt: HostRuntime) {
-    let mut stdin = rt.stdin();
-    let mut stdout = rt.stdout();
-    let mut stderr = rt.stderr();
-    let mut part = [0u8; PART];
-    let mut held = traces::none_held();
-    // A proved loop has to end, and nothing says that an input does: so it counts its turns down, from a number that no
-    // run uses up.
-    let mut turns = u64::MAX;
-    while turns > 0 {
-        let got = streams::read_some(&mut stdin, &mut part);
-        match got {
-            Got::Bytes(k) => {
-                held = traces::read_part(held, &part, k);
-                let trace = held.trace;
-                if is_decided(trace) {
-                    tell(held, &mut stdout, &mut stderr);
-                    return;
-                }
-            }
-            Got::End => {
-                tell(held, &mut stdout, &mut stderr);
-                return;
-            }
-            Got::Failed => {
-                streams::tell_unread(&mut stderr);
-                return;
-            }
-        }
-        turns -= 1;
+    if let Err(failure) = check(&mut rt.stdin(), &mut rt.stdout()) {
+        streams::tell(&mut rt.stderr(), failure.line());
     }
 }
 
+// Checks the trace of an input part by part, until it is decided or the input has ended.
+fn check<R: Read, W: Write>(input: &mut R, output: &mut W) -> Result<(), Failure> {
+    let mut part = [0u8; PART];
+    let mut held = traces::none_held();
+    // Nothing says that an input ends, and a proved loop has to: this one does after turns that no run uses up.
+    for _ in 0..u64::MAX {
+        let k = read_some(input, &mut part)?;
+        if k == 0 {
+            break;
+        }
+        held = traces::read_part(held, &part, k);
+        if is_decided(held.trace) {
+            break;
+        }
+    }
+    tell(held, output)
+}
+
 // Writes the line of what has been read.
-fn tell<W: Write, E: Write>(held: Held, stdout: &mut W, stderr: &mut E) {
+fn tell<W: Write>(held: Held, output: &mut W) -> Result<(), Failure> {
     let mut out = [0u8; LINE];
     let n = traces::put_judgement(&mut out, traces::judge(held));
-    streams::write_out(stdout, stderr, &out[..n]);
+    write_out(output, &out[..n])
 }

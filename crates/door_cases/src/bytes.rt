@@ -7,7 +7,6 @@ use crate::gates::{
     TIMED, UNITS,
 };
 use gate::{Client, Gate, Server, Setup};
-use text::{wide16, wide32};
 
 // Byte j of a number.
 fn octet_of(x: u64, j: usize) -> u8
@@ -22,7 +21,7 @@ fn client_byte(c: Client, code: u8, j: usize) -> u8
     if j == 0 {
         return code;
     }
-    octet_of(wide16(c.0), j - 1)
+    octet_of(u64::from(c.0), j - 1)
 }
 
 fn server_byte(s: Server, j: usize) -> u8
@@ -50,10 +49,10 @@ fn setup_byte(s: Setup, i: usize) -> u8
         return s.clients;
     }
     if i < 4 {
-        return octet_of(wide16(s.cap), i - 2);
+        return octet_of(u64::from(s.cap), i - 2);
     }
     if i < TIMED {
-        return octet_of(wide16(s.tidy), i - 4);
+        return octet_of(u64::from(s.tidy), i - 4);
     }
     if i < SIZES {
         return s.timed as u8;
@@ -72,7 +71,7 @@ fn row_byte(s: Setup, i: usize) -> u8
         return s.homes[i - HOMES];
     }
     octet_of(
-        wide16(s.priorities[(i - PRIORITIES) / 2]),
+        u64::from(s.priorities[(i - PRIORITIES) / 2]),
         (i - PRIORITIES) % 2,
     )
 }
@@ -102,13 +101,13 @@ fn service_byte(g: Gate, i: usize) -> u8
         return server_byte(g.server, i - SERVER);
     }
     if i < CHARGES {
-        return octet_of(wide32(g.units), i - UNITS);
+        return octet_of(u64::from(g.units), i - UNITS);
     }
     if i < DEADLINES {
-        return octet_of(wide32(g.charges[(i - CHARGES) / 4]), (i - CHARGES) % 4);
+        return octet_of(u64::from(g.charges[(i - CHARGES) / 4]), (i - CHARGES) % 4);
     }
     octet_of(
-        wide32(g.deadlines[(i - DEADLINES) / 4]),
+        u64::from(g.deadlines[(i - DEADLINES) / 4]),
         (i - DEADLINES) % 4,
     )
 }

@@ -13,8 +13,8 @@ use gates::{GATE, gate_in};
 use layout::{byte_at, double_at, word_at};
 use std::io::{Read, Write};
 use step::Answered;
-use streams::Whole;
-use text::{LF, SPACE, put_byte, put_number, wide, wide_size};
+use streams::Failure;
+use text::{LF, SPACE, put_byte, put_number};
 
 // A code, a 16-bit argument and a 32-bit deadline.
 const RECORD: usize = layout::RECORD_DEADLINE + 4;
@@ -27,47 +27,38 @@ const LINE: usize = 22 + 42 * GATE + 1;
 const EQUALS: u8 = 61;
 
 fn main(rt: HostRuntime) {
-    let mut stdin = rt.stdin();
-    let mut stdout = rt.stdout();
-    let mut stderr = rt.stderr();
-    answer_all(&mut stdin, &mut stdout, &mut stderr);
-}
-
-// Answers each case. A proved loop has to end, and nothing says that an input does: so it counts its turns down, from a
-// number that no run uses up.
-fn answer_all<R: Read, W: Write, E: Write>(stdin: &mut R, stdout: &mut W, stderr: &mut E) {
-    let mut turns = u64::MAX;
-    while turns > 0 {
-        if !answer_next(stdin, stdout, stderr) {
-            return;
-        }
-        turns -= 1;
+    if let Err(failure) = answer_all(&mut rt.stdin(), &mut rt.stdout(), &mut rt.stderr()) {
+        streams::tell(&mut rt.stderr(), failure.line());
     }
 }
 
-// Reads a case and answers it, and tells whether to go on.
-fn answer_next<R: Read, W: Write, E: Write>(stdin: &mut R, stdout: &mut W, stderr: &mut E) -> bool {
+// Answers each case, to the end of the input.
+fn answer_all<R: Read, W: Write, E: Write>(
+    stdin: &mut R,
+    stdout: &mut W,
+    stderr: &mut E,
+) -> Result<(), Failure> {
     let mut case = [0u8; CASE];
-    let whole = streams::read_whole(stdin, &mut case);
-    let Whole::Bytes(n) = whole else {
-        streams::tell_unread(stderr);
-        return false;
-    };
-    if n == 0 {
-        return false;
+    // Nothing says that an input ends, and a proved loop has to: this one does after turns that no run uses up.
+    for _ in 0..u64::MAX {
+        let n = streams::read_whole(stdin, &mut case)?;
+        if n == 0 {
+            break;
+        }
+        if n < CASE {
+            streams::tell(stderr, b"the last case is cut short\n");
+            break;
+        }
+        answer(&case, stdout)?;
     }
-    if n < CASE {
-        streams::tell(stderr, b"the last case is cut short\n");
-        return false;
-    }
-    answer(&case, stdout, stderr)
+    Ok(())
 }
 
-// Writes the line of a case, and tells whether that could be done.
-fn answer<W: Write, E: Write>(case: &[u8], stdout: &mut W, stderr: &mut E) -> bool {
+// Writes the line of a case.
+fn answer<W: Write>(case: &[u8], stdout: &mut W) -> Result<(), Failure> {
     let mut out = [0u8; LINE];
     let k = put_case(&mut out, case);
-    streams::write_out(stdout, stderr, &out[..k])
+    streams::write_out(stdout, &out[..k])
 }
 
 // 1 if a gate is sound, else 0.
@@ -128,7 +119,7 @@ fn put_change(out: &mut [u8; LINE], at: usize, i: usize, old: u8, new: u8) -> us
         return at;
     }
     let a = put_byte(out, at, SPACE);
-    let b = put_number(out, a, wide_size(i));
+    let b = put_number(out, a, i as u64);
     let c = put_byte(out, b, EQUALS);
-    put_number(out, c, wide(new))
+    put_number(out, c, u64::from(new))
 }

@@ -3,34 +3,28 @@
 #![tactic(auto)]
 
 use importing::{LOG, PART};
-use streams::Got;
+use std::io::{Read, Write};
+use streams::{Failure, read_some, write_out};
 
 fn main(rt: HostRuntime) {
-    let mut stdin = rt.stdin();
-    let mut stdout = rt.stdout();
-    let mut stderr = rt.stderr();
+    if let Err(failure) = import(&mut rt.stdin(), &mut rt.stdout()) {
+        streams::tell(&mut rt.stderr(), failure.line());
+    }
+}
+
+// Imports the lines of an input, to its end.
+fn import<R: Read, W: Write>(input: &mut R, output: &mut W) -> Result<(), Failure> {
     let mut log = [0u8; LOG];
     let mut part = [0u8; PART];
     let mut held = importing::begin(&mut log);
-    // A proved loop has to end, and nothing says that an input does: so it counts its turns down, from a number that no
-    // run uses up.
-    let mut turns = u64::MAX;
-    while turns > 0 {
-        let got = streams::read_some(&mut stdin, &mut part);
-        match got {
-            Got::Bytes(k) => {
-                held = importing::read_part(held, &part, k, &mut log);
-            }
-            Got::End => {
-                let n = importing::put_verdict(held, &mut log);
-                streams::write_out(&mut stdout, &mut stderr, &log[..n]);
-                return;
-            }
-            Got::Failed => {
-                streams::tell_unread(&mut stderr);
-                return;
-            }
+    // Nothing says that an input ends, and a proved loop has to: this one does after turns that no run uses up.
+    for _ in 0..u64::MAX {
+        let k = read_some(input, &mut part)?;
+        if k == 0 {
+            let n = importing::put_verdict(held, &mut log);
+            return write_out(output, &log[..n]);
         }
-        turns -= 1;
+        held = importing::read_part(held, &part, k, &mut log);
     }
+    Ok(())
 }

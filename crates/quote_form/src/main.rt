@@ -2,38 +2,29 @@
 #![tactic(auto)]
 
 use form::{OUT, PART};
-use streams::Got;
+use std::io::{Read, Write};
+use streams::{Failure, read_some, write_out};
 
 fn main(rt: HostRuntime) {
-    let mut stdin = rt.stdin();
-    let mut stdout = rt.stdout();
-    let mut stderr = rt.stderr();
+    if let Err(failure) = answer(&mut rt.stdin(), &mut rt.stdout()) {
+        streams::tell(&mut rt.stderr(), failure.line());
+    }
+}
+
+// Answers the orders of an input part by part, to its end.
+fn answer<R: Read, W: Write>(input: &mut R, output: &mut W) -> Result<(), Failure> {
     let mut part = [0u8; PART];
     let mut out = [0u8; OUT];
     let mut held = form::none_held();
-    // A proved loop has to end, and nothing says that an input does: so it counts its turns down, from a number that no
-    // run uses up.
-    let mut turns = u64::MAX;
-    while turns > 0 {
-        let got = streams::read_some(&mut stdin, &mut part);
-        match got {
-            Got::Bytes(k) => {
-                held = form::answer_part(held, &part, k, &mut out);
-                let used = held.used;
-                if !streams::write_out(&mut stdout, &mut stderr, &out[..used]) {
-                    return;
-                }
-            }
-            Got::End => {
-                let used = form::answer_end(held, &mut out);
-                streams::write_out(&mut stdout, &mut stderr, &out[..used]);
-                return;
-            }
-            Got::Failed => {
-                streams::tell_unread(&mut stderr);
-                return;
-            }
+    // Nothing says that an input ends, and a proved loop has to: this one does after turns that no run uses up.
+    for _ in 0..u64::MAX {
+        let k = read_some(input, &mut part)?;
+        if k == 0 {
+            let used = form::answer_end(held, &mut out);
+            return write_out(output, &out[..used]);
         }
-        turns -= 1;
+        held = form::answer_part(held, &part, k, &mut out);
+        write_out(output, &out[..held.used])?;
     }
+    Ok(())
 }

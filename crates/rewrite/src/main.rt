@@ -2,37 +2,15 @@
 // is refused, the refusal alone. The log is the file that the argument names, or standard input.
 #![tactic(auto)]
 
-use std::io::{Read, Write};
-use streams::Whole;
+use std::io::Write;
+use streams::Failure;
 
 fn main(rt: HostRuntime) {
-    let mut stdout = rt.stdout();
-    let mut stderr = rt.stderr();
-    let words = log_files::argument_count(&rt);
-    if words > 2 {
-        streams::tell(&mut stderr, b"usage: rewrite [LOG]\n");
-        return;
-    }
-    if words < 2 {
-        let mut stdin = rt.stdin();
-        rewrite(&mut stdin, &mut stdout, &mut stderr);
-        return;
-    }
-    let opened = log_files::open_argument(&rt, &mut stderr, 1);
-    if let Some(mut file) = opened {
-        rewrite(&mut file, &mut stdout, &mut stderr);
-    }
+    log_files::run(rt, b"usage: rewrite [LOG]\n", |log, output| rewrite(log, output));
 }
 
-// Rewrites the log that an input gives. Of what can't be read nothing is written.
-fn rewrite<R: Read, W: Write, E: Write>(input: &mut R, stdout: &mut W, stderr: &mut E) {
-    let mut log = [0u8; layout::MAX_LOG + 1];
-    let whole = log_files::read_log(input, &mut log);
-    let Whole::Bytes(n) = whole else {
-        streams::tell_unread(stderr);
-        return;
-    };
+fn rewrite<W: Write>(log: &[u8], output: &mut W) -> Result<(), Failure> {
     let mut out = [0u8; layout::MAX_LOG];
-    let k = rewriting::put_rewritten(&log[..n], &mut out);
-    streams::write_out(stdout, stderr, &out[..k]);
+    let k = rewriting::put_rewritten(log, &mut out);
+    streams::write_out(output, &out[..k])
 }

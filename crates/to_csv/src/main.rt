@@ -2,19 +2,15 @@
 // the refusal alone.
 #![tactic(auto)]
 
-use streams::Whole;
+use std::io::Write;
+use streams::Failure;
 
 fn main(rt: HostRuntime) {
-    let mut stdin = rt.stdin();
-    let mut stdout = rt.stdout();
-    let mut stderr = rt.stderr();
-    let mut log = [0u8; layout::MAX_LOG + 1];
-    let whole = log_files::read_log(&mut stdin, &mut log);
-    let Whole::Bytes(n) = whole else {
-        streams::tell_unread(&mut stderr);
-        return;
-    };
+    log_files::run_on(rt, &mut rt.stdin(), |log, output| export(log, output));
+}
+
+fn export<W: Write>(log: &[u8], output: &mut W) -> Result<(), Failure> {
     let mut out = [0u8; items::MAX_CSV];
-    let k = exporting::put_exported(&log[..n], &mut out);
-    streams::write_out(&mut stdout, &mut stderr, &out[..k]);
+    let k = exporting::put_exported(log, &mut out);
+    streams::write_out(output, &out[..k])
 }

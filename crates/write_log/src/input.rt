@@ -1,13 +1,14 @@
 // An input: the room that it asks for, a decimal number from 0 to 65,535 that an LF ends, and a log behind that.
 
 ghost use Rattle.std.specs.Prelude.{◌≡◌, ◌≤◌, length};
-ghost use Rattle.streams.specs.Whole.{Holds, ReadsWhole};
+ghost use Rattle.std.specs.Io.{ReadsAtMost};
+ghost use Rattle.streams.specs.Reads.{ReadsWhole};
 ghost use Rattle.write_log.specs.Sizes.{input_bytes};
 ghost use Rattle.write_log.specs.Within.{Within};
 
 use layout::{MAX_LOG, byte_at};
 use std::io::Read;
-use streams::{Whole, read_whole};
+use streams::{Failure, read_whole};
 use text::LF;
 
 // The largest room.
@@ -27,8 +28,8 @@ pub struct Asked {
 }
 
 // Standard input, to its end or as far as the array goes.
-pub fn read_input<R: Read>(stdin: &mut R, input: &mut [u8; INPUT]) -> Whole
-    ensures holds { Holds input.new result × (length input.new ≡ input_bytes) }
+pub fn read_input<R: Read>(stdin: &mut R, input: &mut [u8; INPUT]) -> Result<usize, Failure>
+    ensures holds { ReadsAtMost result input.new × (length input.new ≡ input_bytes) }
     ensures bytes { ReadsWhole (R.remaining stdin.old) (R.remaining stdin.new) input.new result }
 {
     read_whole(stdin, input)

@@ -14,8 +14,8 @@ use input::{INPUT, MAX_ROOM, read_input, room_in};
 use layout::record_size;
 use lines::{TEXT, put_buffer, put_entry, put_named, put_refusal};
 use logs::{Refusal, record_at};
-use std::io::Write;
-use streams::Whole;
+use std::io::{Read, Write};
+use streams::{Failure, write_out};
 
 // What a byte of the buffer holds before anything is written there.
 const UNWRITTEN: u8 = 255;
@@ -31,20 +31,28 @@ struct Standing {
 }
 
 fn main(rt: HostRuntime) {
-    let mut stdin = rt.stdin();
-    let mut stdout = rt.stdout();
-    let mut stderr = rt.stderr();
-    let mut input = [0u8; INPUT];
-    let whole = read_input(&mut stdin, &mut input);
-    let Whole::Bytes(n) = whole else {
-        streams::tell_unread(&mut stderr);
-        return;
-    };
-    try_input(&input[..n], &mut stdout, &mut stderr);
+    if let Err(failure) = run(&mut rt.stdin(), &mut rt.stdout(), &mut rt.stderr()) {
+        streams::tell(&mut rt.stderr(), failure.line());
+    }
 }
 
-// Tries the writer on an input.
-fn try_input<W: Write, E: Write>(input: &[u8], stdout: &mut W, stderr: &mut E)
+// Tries the writer on what an input gives.
+fn run<R: Read, W: Write, E: Write>(
+    stdin: &mut R,
+    stdout: &mut W,
+    stderr: &mut E,
+) -> Result<(), Failure> {
+    let mut input = [0u8; INPUT];
+    let n = read_input(stdin, &mut input)?;
+    try_input(&input[..n], stdout, stderr)
+}
+
+// Tries it on an input.
+fn try_input<W: Write, E: Write>(
+    input: &[u8],
+    stdout: &mut W,
+    stderr: &mut E,
+) -> Result<(), Failure>
     requires { length input.now ≤ input_bytes }
 {
     let Some(asked) = room_in(input) else {
@@ -52,21 +60,14 @@ fn try_input<W: Write, E: Write>(input: &[u8], stdout: &mut W, stderr: &mut E)
             stderr,
             b"the input does not begin with a room from 0 to 65535 and a line feed\n",
         );
-        return;
+        return Ok(());
     };
-    print_tried(&input[asked.log..], asked.room, stdout, stderr);
-}
-
-// Tries it on a log in a room, and prints what comes of that.
-fn print_tried<W: Write, E: Write>(log: &[u8], room: usize, stdout: &mut W, stderr: &mut E)
-    requires { (length log.now ≤ input_bytes) × (room ≤ max_room) }
-{
     let mut out = [0u8; TEXT];
-    let end = put_tried(log, room, &mut out);
-    streams::write_out(stdout, stderr, &out[..end]);
+    let end = put_tried(&input[asked.log..], asked.room, &mut out);
+    write_out(stdout, &out[..end])
 }
 
-// The text of that, and where it ends.
+// Tries it on a log in a room: the text of what comes of that, and where it ends.
 fn put_tried(log: &[u8], room: usize, out: &mut [u8; TEXT]) -> usize
     requires { (length log.now ≤ input_bytes) × (room ≤ max_room) }
     ensures { result ≤ length out.new }

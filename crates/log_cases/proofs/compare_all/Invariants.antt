@@ -1,9 +1,6 @@
 -- No more pairs are the same than were compared.
-use Rattle.std.proofs.Common.{◌-◌, ◌≤◌}
+use Rattle.std.proofs.Common.{◌≤◌}
 use Rattle.log_cases.proofs.compare_all.Given as goal
 
 abbrev pub invariant-loop-p : goal.invariant-loop-p
-invariant-loop-p g l = (l.same ≤ l.p) × (l.p ≤ l.pairs)
-
-abbrev pub decreases-loop-p : goal.decreases-loop-p
-decreases-loop-p g l = l.pairs - l.p
+invariant-loop-p g l = l.same ≤ l.p
