@@ -6,7 +6,11 @@ use std::io::Write;
 use streams::Failure;
 
 fn main(rt: HostRuntime) {
-    log_files::run(rt, b"usage: replay [LOG]\n", |log, output| replay(log, output));
+    log_files::run(
+        rt,
+        b"usage: replay [LOG]\n",
+        |log, output| replay(log, output),
+    );
 }
 
 fn replay<W: Write>(log: &[u8], output: &mut W) -> Result<(), Failure> {

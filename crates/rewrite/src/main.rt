@@ -6,7 +6,11 @@ use std::io::Write;
 use streams::Failure;
 
 fn main(rt: HostRuntime) {
-    log_files::run(rt, b"usage: rewrite [LOG]\n", |log, output| rewrite(log, output));
+    log_files::run(
+        rt,
+        b"usage: rewrite [LOG]\n",
+        |log, output| rewrite(log, output),
+    );
 }
 
 fn rewrite<W: Write>(log: &[u8], output: &mut W) -> Result<(), Failure> {
