@@ -103,10 +103,8 @@ fn past(s: u64, m: usize) -> u64
     ensures { result ≡ past_of s m }
 {
     let mut left = s;
-    let mut i: usize = 0;
-    while i < m {
+    for i in 0..m {
         left = sets::rest(left);
-        i += 1;
     }
     left
 }

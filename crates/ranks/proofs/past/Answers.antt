@@ -9,31 +9,22 @@ use Rattle.ranks.proofs.past.Goals as goal
 
 pub loop-i-init : goal.loop-i-init
 unfolding past_of
-loop-i-init c = (omega arith, c.requires, refl)
+loop-i-init c = refl
 
 pub rest-left-requires : goal.rest-left-requires
 rest-left-requires c =
     let l = c.loop-i in
     let s = c.args.s in
-    rw l.invariant.2 (past-some s (omega arith) l.i (omega (arith, l.invariant.1)))
-
-pub overflow_add-i : goal.overflow_add-i
-overflow_add-i c = omega arith
-
-pub loop-i-smaller : goal.loop-i-smaller
-loop-i-smaller c = omega arith
+    rw l.invariant (past-some s (omega arith) l.i (omega (arith, c.requires)))
 
 pub loop-i-preserved : goal.loop-i-preserved
 loop-i-preserved c =
     let l = c.loop-i in
-    let s = c.args.s in (
-      omega arith,
-      l.invariant.1,
-      c.rest-left.ensures.0 ∙ ap (λ x. without_of x (first_of x)) l.invariant.2 ∙ past_next s l.i,
-    )
+    let s = c.args.s in
+    c.rest-left.ensures.0 ∙ ap (λ x. without_of x (first_of x)) l.invariant ∙ past_next s l.i
 
 pub returns : goal.returns
 returns c =
     let l = c.loop-i in
     let e : l.i ≡ c.args.m = omega arith in
-    l.invariant.2 ∙ ap (past_of c.args.s) e
+    l.invariant ∙ ap (past_of c.args.s) e
