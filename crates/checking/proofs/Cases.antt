@@ -5,6 +5,7 @@ use mathlib.Core.Path.{◌≡◌, refl}
 use mathlib.Core.Bool.{Bool, true, false}
 use mathlib.Core.List.{List, [], ◌∷◌}
 use mathlib.Core.Option.{Option, some, none}
+use Rattle.std.specs.Prelude.{Some, None}
 use Rattle.rules.specs.Events.{invoke, reply}
 use Rattle.rules.specs.Records.{Record, event_of, Heard, known, reply_ready, unknown}
 use Rattle.rules.specs.Traces.{Seen, the_answer, the_served, the_charges, refused, agrees, differs}
@@ -12,7 +13,6 @@ use Rattle.gate.specs.declared.Server.{Server}
 use Rattle.gate.specs.declared.Server.TheVariants.{Idle, Front, Best, Spent, Tidying}
 use Rattle.gate.specs.declared.Gate.{Gate}
 use Rattle.gate.specs.Shown.{table, client}
-use Rattle.checking.specs.declared.Served.TheVariants.{Nobody, By}
 use Rattle.checking.specs.declared.Part.TheVariants as part
 use Rattle.checking.specs.declared.Verdict.{Verdict}
 use Rattle.checking.specs.declared.Verdict.TheVariants.{Refused, Agrees, Differs}
@@ -32,8 +32,8 @@ pub first-verdicts :
 first-verdicts = (refl, refl, refl, refl, refl, refl, refl, refl)
 
 pub words :
-    (served_in Nobody ≡ none)
-    × (served_in (By (client 3)) ≡ some 3)
+    (served_in None ≡ none)
+    × (served_in (Some (client 3)) ≡ some 3)
     × (verdict_in (Refused 4) ≡ refused 4)
     × (verdict_in Agrees ≡ agrees)
     × (verdict_in (Differs 7 part.Answer) ≡ differs 7 the_answer)

@@ -1,6 +1,8 @@
 -- A checker of traces: what it holds before the first entry, and what an entry makes of it.
 -- Assumes nothing.
 use Rattle.std.specs.Prelude.{ℕ, ◌≡◌, Bool, true, false, not, cond, List, [], ◌∷◌, eqb, take}
+use Rattle.std.specs.Prelude as code
+use Rattle.std.specs.Prelude.{Some, None}
 use Rattle.std.proofs.Math.Option.{Option, some, none}
 use Rattle.rules.specs.Refusals.{accepted, bad_version}
 use Rattle.rules.specs.Setup.{setup_answer}
@@ -9,13 +11,12 @@ use Rattle.rules.specs.Replay.{in_service}
 use Rattle.rules.specs.Traces as rules
 use Rattle.rules.specs.Traces.{Seen, Traced, the_answer, the_served, the_charges, refused, agrees, differs, difference}
 use Rattle.text.specs.Text.{next_count}
+use Rattle.gate.specs.declared.Client.{Client}
 use Rattle.gate.specs.declared.Setup.{Setup}
 use Rattle.gate.specs.Shown.{setup_of, server_of}
 use Rattle.gate.specs.Made.{made}
 use Rattle.soundness.specs.Clauses.{sound_of}
 use Rattle.step.specs.Stepped.{Result, stepped}
-use Rattle.checking.specs.declared.Served.{Served}
-use Rattle.checking.specs.declared.Served.TheVariants.{Nobody, By}
 use Rattle.checking.specs.declared.Part.{Part}
 use Rattle.checking.specs.declared.Part.TheVariants as part
 use Rattle.checking.specs.declared.Verdict.{Verdict}
@@ -25,12 +26,12 @@ use Rattle.checking.specs.declared.Checker.{Checker}
 -- THE CODE'S WORDS FOR WHAT THE RULES SPEAK OF
 
 -- whom the kernel says is in service
-abbrev pub served_in : Served → Option ℕ
-served_in Nobody = none
-served_in (By c) = some c.0
+abbrev pub served_in : code.Option Client → Option ℕ
+served_in None = none
+served_in (Some c) = some c.0
 
 -- all that it says of an entry
-abbrev pub seen_in : ℕ → Served → List ℕ → Seen
+abbrev pub seen_in : ℕ → code.Option Client → List ℕ → Seen
 seen_in n s l = record { answer = n; served = served_in s; charges = l }
 
 abbrev pub part_in : Part → rules.Part

@@ -5,24 +5,18 @@ ghost use Rattle.std.specs.Prelude.{◌≡◌};
 ghost use Rattle.rules.specs.Replay.{in_service};
 ghost use Rattle.rules.specs.Traces.{same_served, same_charges, difference};
 ghost use Rattle.gate.specs.Shown.{server_of};
+ghost use Rattle.gate.specs.Heard.{record_in};
 ghost use Rattle.checking.specs.Checking.{served_in, seen_in, is_agreeing, first_verdict, verdict_at};
 ghost use Rattle.checking.specs.Checking.{begun, entered_by, checked, Going};
 
 use answers::number;
-use gate::{Client, Gate, Server, Setup, heard_in};
+use gate::{Client, Gate, Record, Server, Setup, heard_in};
 use layout::is_version;
 use step::{sound_heard, step_heard};
-use text::{least, next_count, wide16};
+use text::next_count;
 
 // The number of a refusal of its version.
 const BAD_VERSION: u64 = 22;
-
-// Whom a kernel says is in service.
-#[derive(Clone, Copy)]
-pub enum Served {
-    Nobody,
-    By(Client),
-}
 
 // What an entry differs in.
 #[derive(Clone, Copy)]
@@ -70,12 +64,10 @@ pub fn start(version: u16, s: Setup) -> Checker
     ensures going { Going result }
 {
     let f = Gate::fresh(s);
-    let verdict = f.verdict;
-    let g = f.gate;
-    let first = first_verdict(version, gate::number(verdict));
+    let first = first_verdict(version, gate::number(f.verdict));
     Checker {
-        version: version,
-        gate: g,
+        version,
+        gate: f.gate,
         entries: 0,
         verdict: first,
     }
@@ -94,36 +86,26 @@ pub fn is_agreeing(v: Verdict) -> bool
     }
 }
 
-fn same_served(says: Served, s: Server) -> bool
+fn same_served(says: Option<Client>, s: Server) -> bool
     ensures { result ≡ same_served (served_in says) (in_service (server_of s)) }
 {
     match says {
-        Served::Nobody => !serving::is_serving(s),
-        Served::By(c) => serving::serves(s, c),
+        None => !serving::is_serving(s),
+        Some(c) => serving::serves(s, c),
     }
 }
 
 fn same_charges(theirs: &[u32], ours: &[u32]) -> bool
     ensures { result ≡ same_charges theirs.now ours.now }
 {
-    if theirs.len() != ours.len() {
-        return false;
-    }
-    let mut i = 0;
-    while i < ours.len() {
-        if theirs[i] != ours[i] {
-            return false;
-        }
-        i += 1;
-    }
-    true
+    theirs == ours
 }
 
 // The verdict after an entry, by what differs first between what the kernel says and our own.
 fn verdict_at(
     entry: u64,
     answer: u16,
-    says: Served,
+    says: Option<Client>,
     theirs: &[u32],
     number: u64,
     server: Server,
@@ -132,7 +114,7 @@ fn verdict_at(
     ensures { result ≡ verdict_at entry (difference (seen_in answer says theirs.now)
         (record { answer = number; served = in_service (server_of server); charges = ours.now })) }
 {
-    if wide16(answer) != number {
+    if u64::from(answer) != number {
         return Verdict::Differs(entry, Part::Answer);
     }
     if !same_served(says, server) {
@@ -145,20 +127,17 @@ fn verdict_at(
 }
 
 // The checker after an entry, by our own number and gate.
-fn entered(g: Gate, n: u64, k: Checker, answer: u16, says: Served, theirs: &[u32]) -> Checker
+fn entered(g: Gate, n: u64, k: Checker, answer: u16, says: Option<Client>, theirs: &[u32]) -> Checker
     ensures { result ≡ entered_by k (record { number = n; gate = g }) (seen_in answer says theirs.now) }
 {
-    let server = g.server;
-    let setup = g.setup;
-    let charges = g.charges;
-    let clients = least(gate::wide(setup.clients), Gate::MAX_CLIENTS);
-    let ours = &charges[..clients];
-    let v = verdict_at(k.entries, answer, says, theirs, n, server, ours);
+    let clients = usize::from(g.setup.clients).min(Gate::MAX_CLIENTS);
+    let ours = &g.charges[..clients];
+    let v = verdict_at(k.entries, answer, says, theirs, n, g.server, ours);
     Checker {
-        version: k.version,
         gate: g,
         entries: next_count(k.entries),
         verdict: v,
+        ..k
     }
 }
 
@@ -166,57 +145,35 @@ fn entered(g: Gate, n: u64, k: Checker, answer: u16, says: Served, theirs: &[u32
 // its charges.
 pub fn check(
     k: Checker,
-    code: u8,
-    argument: u16,
-    deadline: u32,
+    r: Record,
     answer: u16,
-    says: Served,
+    says: Option<Client>,
     charges: &[u32],
 ) -> Checker
-    ensures { result ≡ checked k (record { code = code; argument = argument; deadline = deadline })
-        (seen_in answer says charges.now) }
+    ensures { result ≡ checked k (record_in r) (seen_in answer says charges.now) }
 {
-    let v = k.verdict;
-    if !is_agreeing(v) {
+    if !is_agreeing(k.verdict) {
         return k;
     }
-    let g = k.gate;
-    let setup = g.setup;
-    let a = step_heard(
-        g,
-        heard_in(k.version, setup.timed, code, argument, deadline),
-    );
-    let ours = a.answer;
-    let next = a.gate;
-    entered(next, number(ours), k, answer, says, charges)
+    let a = step_heard(k.gate, heard_in(k.version, k.gate.setup.timed, r));
+    entered(a.gate, number(a.answer), k, answer, says, charges)
 }
 
 // The same for who holds a checker whose gate is sound while the trace agrees, as `start` and this function leave it.
 pub fn check_sound(
     k: Checker,
-    code: u8,
-    argument: u16,
-    deadline: u32,
+    r: Record,
     answer: u16,
-    says: Served,
+    says: Option<Client>,
     charges: &[u32],
 ) -> Checker
     requires { Going k }
-    ensures value { result ≡ checked k (record { code = code; argument = argument; deadline = deadline })
-        (seen_in answer says charges.now) }
+    ensures value { result ≡ checked k (record_in r) (seen_in answer says charges.now) }
     ensures going { Going result }
 {
-    let v = k.verdict;
-    if !is_agreeing(v) {
+    if !is_agreeing(k.verdict) {
         return k;
     }
-    let g = k.gate;
-    let setup = g.setup;
-    let a = sound_heard(
-        g,
-        heard_in(k.version, setup.timed, code, argument, deadline),
-    );
-    let ours = a.answer;
-    let next = a.gate;
-    entered(next, number(ours), k, answer, says, charges)
+    let a = sound_heard(k.gate, heard_in(k.version, k.gate.setup.timed, r));
+    entered(a.gate, number(a.answer), k, answer, says, charges)
 }

@@ -9,7 +9,8 @@ use lib.ListN.{get_or, drop}
 use Rattle.rules.specs.Refusals.{bad_ranks}
 use Rattle.gate.specs.declared.Setup.{Setup}
 use Rattle.layout.specs.Layout.{is_ranks}
-use Rattle.checking.specs.declared.Served.{Served}
+use Rattle.gate.specs.declared.Client.{Client}
+use Rattle.std.specs.Prelude as code
 use Rattle.checking.specs.declared.Verdict.TheVariants.{Refused}
 use Rattle.checking.specs.declared.Checker.{Checker}
 use Rattle.checking.specs.Checking.{served_in, seen_in, begun, checked}
@@ -45,7 +46,7 @@ module _ (t : Trace) where
         → k ≡ ranked t.ranks j → trace Entries t.lines r t.ranks s k ≡ tabled t r s
     rows-done e q p = rw (e, p, q)
 
-  pub entered-is : (vs : List ℕ) {a b d n : ℕ} (x : Served) {l : List ℕ} {k : Checker}
+  pub entered-is : (vs : List ℕ) {a b d n : ℕ} (x : code.Option Client) {l : List ℕ} {k : Checker}
       → a ≡ get_or vs 0 0 → b ≡ get_or vs 1 0 → d ≡ deadline_in t.checker.version vs
       → n ≡ get_or vs (answer_at t.checker.version) 0
       → served_in x ≡ served_of (get_or vs (served_at t.checker.version) 0)

@@ -10,7 +10,6 @@ ghost use Rattle.items.specs.Items.{sizes_form, row_form};
 ghost use Rattle.tracing.specs.Shapes.{ranks_of, head_setup, HeadNumbers, with_sizes, with_row, RowNumbers};
 ghost use Rattle.tracing.specs.Shapes.{entry_widths, answer_at, entry_begins, deadline_in, served_of};
 
-use checking::Served;
 use gate::{Client, Gate, Setup};
 use items::{row_form, sizes_all};
 use layout::{DEADLINES, carries_ranks};
@@ -194,11 +193,11 @@ pub fn deadline_in(version: u16, vs: &[u64]) -> u32
 }
 
 // Whom SERVED says.
-pub fn served_in(x: u64) -> Served
+pub fn served_in(x: u64) -> Option<Client>
     ensures { (x ≤ bits16 → served_in result ≡ served_of x) × (x ≡ dash → served_in result ≡ served_of x) }
 {
     if BITS_16 < x {
-        return Served::Nobody;
+        return None;
     }
-    Served::By(Client(word(x)))
+    Some(Client(word(x)))
 }

@@ -14,7 +14,7 @@ use crate::shapes::{
 };
 use crate::{Stage, Trace};
 use checking::{Checker, Verdict, check_sound, start};
-use gate::Setup;
+use gate::{Record, Setup};
 use items::head_fits;
 use layout::is_ranks;
 use lines::narrowed;
@@ -28,15 +28,9 @@ const BAD_RANKS: u64 = 33;
 fn malformed(t: Trace) -> Trace
     ensures { result ≡ Tracing·malformed t }
 {
-    let s = t.setup;
-    let k = t.checker;
     Trace {
         stage: Stage::Malformed,
-        lines: t.lines,
-        rows: t.rows,
-        ranks: t.ranks,
-        setup: s,
-        checker: k,
+        ..t
     }
 }
 
@@ -46,7 +40,7 @@ fn awaits_sizes(v: Verdict) -> Stage
 {
     match v {
         Verdict::Refused(n) => {
-            if n == gate::number(gate::Verdict::BadSize(0)) {
+            if n == gate::number(Err(gate::Refusal::BadSize(0))) {
                 Stage::Sizes
             } else {
                 Stage::Entries
@@ -63,14 +57,13 @@ fn headed(t: Trace, vs: &[u64]) -> Trace
 {
     let s = head_setup(vs);
     let k = start(word(value_at(vs, 0)), s);
-    let v = k.verdict;
     Trace {
-        stage: awaits_sizes(v),
-        lines: t.lines,
+        stage: awaits_sizes(k.verdict),
         rows: 0,
         ranks: ranks_in(vs),
         setup: s,
         checker: k,
+        ..t
     }
 }
 
@@ -82,12 +75,9 @@ fn ranked(q: u8, k: Checker) -> Checker
     if is_ranks(q) {
         return k;
     }
-    let g = k.gate;
     Checker {
-        version: k.version,
-        gate: g,
-        entries: k.entries,
         verdict: Verdict::Refused(BAD_RANKS),
+        ..k
     }
 }
 
@@ -124,7 +114,6 @@ fn entered(t: Trace, vs: &[u64], charges: &[u32]) -> Trace
     requires going { Going t.checker }
     ensures { (result ≡ Tracing·entered t vs.now) × Going result.checker }
 {
-    let s = t.setup;
     let k = t.checker;
     let at = answer_at(k.version);
     let code = byte(value_at(vs, 0));
@@ -132,14 +121,16 @@ fn entered(t: Trace, vs: &[u64], charges: &[u32]) -> Trace
     let deadline = deadline_in(k.version, vs);
     let answer = word(value_at(vs, at));
     let served = served_in(value_at(vs, at + 1));
-    let next = check_sound(k, code, argument, deadline, answer, served, charges);
+    let raw = Record {
+        code,
+        argument,
+        deadline,
+    };
+    let next = check_sound(k, raw, answer, served, charges);
     Trace {
         stage: Stage::Entries,
-        lines: t.lines,
-        rows: t.rows,
-        ranks: t.ranks,
-        setup: s,
         checker: next,
+        ..t
     }
 }
 

@@ -6,14 +6,14 @@ use Rattle.gate.specs.Shown.{server_of}
 use Rattle.checking.proofs.Same.{nobody-served, client-served}
 use Rattle.checking.proofs.same_served.Goals as goal
 
-pub returns-in-Nobody : goal.returns-in-Nobody
-returns-in-Nobody c =
+pub returns-in-None : goal.returns-in-None
+returns-in-None c =
     let v = server_of c.args.s in
-    rw c.in-Nobody.is (ap not c.is_serving.ensures ∙ sym (nobody-served v))
+    rw c.in-None.is (ap not c.is_serving.ensures ∙ sym (nobody-served v))
 
-pub returns-in-By : goal.returns-in-By
-returns-in-By c =
+pub returns-in-Some : goal.returns-in-Some
+returns-in-Some c =
     let a = c.args in
     let v = server_of a.s in
-    rw c.in-By.is
+    rw c.in-Some.is
     (c.serves.ensures ∙ sym (client-served v _))
