@@ -127,7 +127,14 @@ fn verdict_at(
 }
 
 // The checker after an entry, by our own number and gate.
-fn entered(g: Gate, n: u64, k: Checker, answer: u16, says: Option<Client>, theirs: &[u32]) -> Checker
+fn entered(
+    g: Gate,
+    n: u64,
+    k: Checker,
+    answer: u16,
+    says: Option<Client>,
+    theirs: &[u32],
+) -> Checker
     ensures { result ≡ entered_by k (record { number = n; gate = g }) (seen_in answer says theirs.now) }
 {
     let clients = usize::from(g.setup.clients).min(Gate::MAX_CLIENTS);
@@ -143,13 +150,7 @@ fn entered(g: Gate, n: u64, k: Checker, answer: u16, says: Option<Client>, their
 
 // The checker after one more entry: a record, the kernel's answer to it, whom the kernel says is in service then, and
 // its charges.
-pub fn check(
-    k: Checker,
-    r: Record,
-    answer: u16,
-    says: Option<Client>,
-    charges: &[u32],
-) -> Checker
+pub fn check(k: Checker, r: Record, answer: u16, says: Option<Client>, charges: &[u32]) -> Checker
     ensures { result ≡ checked k (record_in r) (seen_in answer says charges.now) }
 {
     if !is_agreeing(k.verdict) {

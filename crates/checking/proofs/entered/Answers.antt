@@ -11,11 +11,6 @@ use Rattle.checking.specs.Checking.{seen_in}
 use Rattle.checking.proofs.Steps.{entered-is}
 use Rattle.checking.proofs.entered.Goals as goal
 
-pub slice_bounds-g-end : goal.slice_bounds-g-end
-slice_bounds-g-end c =
-    let n : length c.args.g.charges ≡ 64 = search rules in
-    omega (arith, c.min-clients.ensures, n)
-
 pub slice_bounds-ours-end : goal.slice_bounds-ours-end
 slice_bounds-ours-end c =
     let n : length c.args.g.charges ≡ 64 = search rules in
