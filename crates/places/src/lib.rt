@@ -10,13 +10,6 @@ ghost use Rattle.places.specs.Places.{append_of, join_of, close_up_of, take_out_
 // What an unused place holds.
 pub const UNUSED: u8 = 255;
 
-// What stands at a place, as an index.
-pub fn wide(x: u8) -> usize
-    ensures { result ≡ x }
-{
-    x as usize
-}
-
 // The first place that holds x, or the number of places if none does. Of 255: the first unused place.
 #[tactic(auto, using(crate::proofs::Turns::place_here, crate::proofs::Turns::place_next, crate::proofs::Turns::place_end))]
 pub fn find(q: &[u8], x: u8) -> usize

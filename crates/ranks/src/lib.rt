@@ -6,6 +6,8 @@ ghost use Rattle.std.specs.Prelude.{◌≡◌, Bool, true, false, cond, ℕ, ◌
 ghost use Rattle.std.proofs.Math.Option.{some};
 ghost use Rattle.rules.specs.Limits.{max_clients};
 ghost use Rattle.rules.specs.Lists.{highest, upd};
+ghost use Rattle.rules.specs.Rank.{Rank};
+ghost use Rattle.rules.proofs.Highest.{StrictTotal};
 ghost use Rattle.sets.specs.Sets.{member, set_of, count_of};
 ghost use Rattle.ranks.specs.Ranks.{rank_by, turned, best_in, past_of};
 ghost use Rattle.ranks.specs.Keeps.{Keeps};
@@ -21,30 +23,35 @@ fn key(keys: &[u32; 64], c: usize) -> u32
 }
 
 // Whether client a outranks client b: by their keys, then by their numbers.
+#[tactic(auto, unfolding(crate::specs::Ranks::rank_by))]
 fn outranks(keys: &[u32; 64], a: usize, b: usize) -> bool
     requires { (a < max_clients) × (b < max_clients) }
     ensures { result ≡ rank_by keys.now a b }
 {
     let p = key(keys, a);
     let q = key(keys, b);
-    if p < q {
-        return true;
-    }
-    if p == q {
-        return a < b;
-    }
-    false
+    p < q || p == q && a < b
 }
 
 // THE HIGHEST AND THE LOWEST
 
-// The higher in rank of two.
-fn higher(keys: &[u32; 64], a: usize, b: usize) -> usize
-    requires { (a < max_clients) × (b < max_clients) }
-    ensures { result ≡ cond (rank_by keys.now a b) a b }
+// Of a set that has a member the one that comes before all others there, by an order that `before` tells.
+fn first_by<F: Fn(usize, usize) -> bool>(s: u64, before: F) -> usize
+    requires some { 0 < s }
+    requires callable { (a b : ℕ) → a < max_clients → b < max_clients → F.pre before a b }
+    ensures first { (rank : Rank) → StrictTotal rank
+        → ((a b : ℕ) (r : Bool) → a < max_clients → b < max_clients → F.post before a b r → r ≡ rank a b)
+        → some result ≡ highest rank (member s) max_clients }
+    ensures low { result < max_clients }
 {
-    if outranks(keys, a, b) {
-        return a;
+    let mut b = sets::first(s);
+    let mut left = sets::rest(s);
+    while left != 0 {
+        let c = sets::first(left);
+        if before(c, b) {
+            b = c;
+        }
+        left = sets::rest(left);
     }
     b
 }
@@ -54,38 +61,15 @@ pub fn highest_in(keys: &[u32; 64], s: u64) -> usize
     requires { 0 < s }
     ensures { (some result ≡ highest (rank_by keys.now) (member s) max_clients) × (result < max_clients) }
 {
-    let mut b = sets::first(s);
-    let mut left = sets::rest(s);
-    while left != 0 {
-        b = higher(keys, sets::first(left), b);
-        left = sets::rest(left);
-    }
-    b
+    first_by(s, |a, b| outranks(keys, a, b))
 }
 
-// The lower in rank of two.
-fn lower(keys: &[u32; 64], a: usize, b: usize) -> usize
-    requires { (a < max_clients) × (b < max_clients) }
-    ensures { result ≡ cond (rank_by keys.now b a) a b }
-{
-    if outranks(keys, b, a) {
-        return a;
-    }
-    b
-}
-
-// The lowest in rank of a set that has a member.
+// The lowest.
 fn lowest_in(keys: &[u32; 64], s: u64) -> usize
     requires { 0 < s }
     ensures { (some result ≡ highest (turned (rank_by keys.now)) (member s) max_clients) × (result < max_clients) }
 {
-    let mut b = sets::first(s);
-    let mut left = sets::rest(s);
-    while left != 0 {
-        b = lower(keys, sets::first(left), b);
-        left = sets::rest(left);
-    }
-    b
+    first_by(s, |a, b| outranks(keys, b, a))
 }
 
 // THE BEST

@@ -1,12 +1,8 @@
 // Text in a lent buffer: bytes and numbers, each written from a place on. A caller sees to it that there is room.
 #![tactic(auto)]
 
-mod numbers;
-
 ghost use Rattle.std.specs.Prelude.{◌∷◌, [], ◌++◌, ◌≡◌, ◌+◌, ◌≤◌, ◌<◌, length, take};
-ghost use Rattle.text.specs.Text.{max_digits, decimal, WroteAt};
-
-pub use numbers::{least, next_count, wide, wide_size, wide16, wide32};
+ghost use Rattle.text.specs.Text.{max_digits, next_count, decimal, WroteAt};
 
 // What ends a line.
 pub const LF: u8 = 10;
@@ -83,4 +79,11 @@ pub fn put_number(out: &mut [u8], at: usize, n: u64) -> usize
     }
     out[at] = b'0' + left as u8;
     end
+}
+
+// One more; the last number stays.
+pub fn next_count(n: u64) -> u64
+    ensures { result ≡ next_count n }
+{
+    n.saturating_add(1)
 }
