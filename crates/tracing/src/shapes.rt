@@ -78,7 +78,7 @@ pub fn sizes_fit(k: u8, vs: &[u64]) -> bool
     ensures { result ≡ fit_in (sizes_form k) vs.now }
 {
     let all = sizes_all();
-    let n = gate::wide(k);
+    let n = usize::from(k);
     fit(&all[..n], vs)
 }
 

@@ -87,7 +87,7 @@ fn tabled(t: Trace, rows: u64, s: Setup) -> Trace
     ensures { (result ≡ Tracing·tabled t rows s) × Going result.checker }
 {
     let k = t.checker;
-    if rows < text::wide(s.clients) {
+    if rows < u64::from(s.clients) {
         return Trace {
             stage: Stage::Rows,
             lines: t.lines,

@@ -15,19 +15,19 @@ use Rattle.tracing.proofs.shapes.sizes_fit.Goals as goal
 pub slice_bounds-fit-end : goal.slice_bounds-fit-end
 slice_bounds-fit-end c =
     let low : c.args.k < 256 = search rules in
-    sym (length-take-le c.wide-n.result c.sizes_all-all.result
+    sym (length-take-le c.from-n.result c.sizes_all-all.result
     (omega (
       arith,
       ap length c.sizes_all-all.ensures,
       length-replicate 256 bits8,
       low,
-      c.wide-n.ensures,
+      c.from-n.ensures,
     )))
 
 pub returns : goal.returns
 returns c =
     let low : c.args.k < 256 = search rules in
     c.fit.ensures
-    ∙ ap₂ (λ (n : ℕ) (ws : List ℕ). fit_in (take n ws) c.args.vs.now) c.wide-n.ensures
+    ∙ ap₂ (λ (n : ℕ) (ws : List ℕ). fit_in (take n ws) c.args.vs.now) c.from-n.ensures
     c.sizes_all-all.ensures
     ∙ ap (λ (ws : List ℕ). fit_in ws c.args.vs.now) (first-sizes c.args.k 256 (omega (arith, low)))
