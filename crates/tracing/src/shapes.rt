@@ -20,7 +20,7 @@ use text::{BITS_8, BITS_16, BITS_32};
 pub fn value_at(vs: &[u64], i: usize) -> u64
     ensures { result ≡ get_or vs.now i 0 }
 {
-    if i < vs.len() { vs[i] } else { 0 }
+    vs.get(i).copied().unwrap_or(0)
 }
 
 pub fn byte(x: u64) -> u8
@@ -86,11 +86,9 @@ fn sizes_in(vs: &[u64]) -> [u8; 8]
     requires { (k : ℕ) → get_or vs.now k 0 ≤ bits8 }
     ensures { result ≡ table max_clusters (λ (k : ℕ). get_or vs.now k 0) }
 {
-    let mut sizes = [0u8; 8];
-    let mut k: usize = 0;
-    while k < Gate::MAX_CLUSTERS {
-        sizes[k] = byte(value_at(vs, k));
-        k += 1;
+    let mut sizes = [0; 8];
+    for (k, size) in sizes.iter_mut().enumerate() {
+        *size = byte(value_at(vs, k));
     }
     sizes
 }

@@ -14,32 +14,21 @@ use Rattle.tracing.proofs.shapes.sizes_in.Goals as goal
 
 pub loop-k-init : goal.loop-k-init
 unfolding table
-loop-k-init c = (omega arith, refl)
+loop-k-init c = refl
 
 pub byte-requires : goal.byte-requires
 byte-requires c =
     rw c.value_at.ensures (c.requires c.loop-k.k)
 
-pub bounds-sizes-k : goal.bounds-sizes-k
-bounds-sizes-k c = omega arith
-
-pub overflow_add-k : goal.overflow_add-k
-overflow_add-k c = omega arith
-
-pub loop-k-smaller : goal.loop-k-smaller
-loop-k-smaller c = omega arith
-
 pub loop-k-preserved : goal.loop-k-preserved
 loop-k-preserved c =
-    let vs = c.args.vs.now in (
-      omega arith,
-      rw (c.byte.ensures, c.value_at.ensures, c.loop-k.invariant.1)
-          (column-turn max_clusters (λ (j : ℕ). get_or vs j 0) c.loop-k.k),
-    )
+    let vs = c.args.vs.now in
+    rw (c.byte.ensures, c.value_at.ensures, c.loop-k.invariant)
+    (column-turn max_clusters (λ (j : ℕ). get_or vs j 0) c.loop-k.k)
 
 pub returns : goal.returns
 returns c =
     let vs = c.args.vs.now in
-    c.loop-k.invariant.1
+    c.loop-k.invariant
     ∙ table_same max_clusters (up_to c.loop-k.k (λ (j : ℕ). get_or vs j 0)) (λ (j : ℕ). get_or vs j 0)
     (λ i b. rw (lt-ltb i c.loop-k.k (omega arith)))

@@ -1,6 +1,6 @@
 -- `tracing::sizes_in` meets its contract: the places before the loop's are filled.
 -- Assumes nothing.
-use Prim.Native.Nat.{ℕ, ◌-◌, ◌≤◌}
+use Prim.Native.Nat.{ℕ}
 use mathlib.Core.Path.{◌≡◌}
 use lib.ListN.{get_or}
 use Rattle.rules.specs.Limits.{max_clusters}
@@ -9,8 +9,4 @@ use Rattle.gate.specs.Shown.{table}
 use Rattle.tracing.proofs.shapes.sizes_in.Given as goal
 
 abbrev pub invariant-loop-k : goal.invariant-loop-k
-invariant-loop-k l =
-    (l.k ≤ max_clusters) × (l.sizes ≡ table max_clusters (up_to l.k (λ (j : ℕ). get_or l.vs j 0)))
-
-abbrev pub decreases-loop-k : goal.decreases-loop-k
-decreases-loop-k l = max_clusters - l.k
+invariant-loop-k l = l.size-items ≡ table max_clusters (up_to l.k (λ (j : ℕ). get_or l.vs j 0))
