@@ -8,20 +8,13 @@ use crate::gates::{
 };
 use gate::{Client, Gate, Server, Setup};
 
-// Byte j of a number.
-fn octet_of(x: u64, j: usize) -> u8
-    requires { j < 8 }
-{
-    ((x >> (8 * j)) % 256) as u8
-}
-
 fn client_byte(c: Client, code: u8, j: usize) -> u8
     requires { j < 3 }
 {
     if j == 0 {
         return code;
     }
-    octet_of(u64::from(c.0), j - 1)
+    c.0.to_le_bytes()[j - 1]
 }
 
 fn server_byte(s: Server, j: usize) -> u8
@@ -49,13 +42,13 @@ fn setup_byte(s: Setup, i: usize) -> u8
         return s.clients;
     }
     if i < 4 {
-        return octet_of(u64::from(s.cap), i - 2);
+        return s.cap.to_le_bytes()[i - 2];
     }
     if i < TIMED {
-        return octet_of(u64::from(s.tidy), i - 4);
+        return s.tidy.to_le_bytes()[i - 4];
     }
     if i < SIZES {
-        return s.timed as u8;
+        return u8::from(s.timed);
     }
     s.sizes[i - SIZES]
 }
@@ -70,10 +63,7 @@ fn row_byte(s: Setup, i: usize) -> u8
     if i < PRIORITIES {
         return s.homes[i - HOMES];
     }
-    octet_of(
-        u64::from(s.priorities[(i - PRIORITIES) / 2]),
-        (i - PRIORITIES) % 2,
-    )
+    s.priorities[(i - PRIORITIES) / 2].to_le_bytes()[(i - PRIORITIES) % 2]
 }
 
 // A byte of the lines, the waiting rooms and the global queue.
@@ -85,7 +75,7 @@ fn queue_byte(g: Gate, i: usize) -> u8
         return line.places[(i - LINES) % 8];
     }
     if i < GLOBAL {
-        return octet_of(g.rooms[(i - ROOMS) / 8], (i - ROOMS) % 8);
+        return g.rooms[(i - ROOMS) / 8].to_le_bytes()[(i - ROOMS) % 8];
     }
     g.global[i - GLOBAL]
 }
@@ -101,15 +91,12 @@ fn service_byte(g: Gate, i: usize) -> u8
         return server_byte(g.server, i - SERVER);
     }
     if i < CHARGES {
-        return octet_of(u64::from(g.units), i - UNITS);
+        return g.units.to_le_bytes()[i - UNITS];
     }
     if i < DEADLINES {
-        return octet_of(u64::from(g.charges[(i - CHARGES) / 4]), (i - CHARGES) % 4);
+        return g.charges[(i - CHARGES) / 4].to_le_bytes()[(i - CHARGES) % 4];
     }
-    octet_of(
-        u64::from(g.deadlines[(i - DEADLINES) / 4]),
-        (i - DEADLINES) % 4,
-    )
+    g.deadlines[(i - DEADLINES) / 4].to_le_bytes()[(i - DEADLINES) % 4]
 }
 
 // Byte i of a gate.

@@ -24,8 +24,6 @@ const CASE: usize = GATE + RECORD;
 // Room for the longest line: 22 bytes before the changes, 42 a change, and an LF.
 const LINE: usize = 22 + 42 * GATE + 1;
 
-const EQUALS: u8 = 61;
-
 fn main(rt: HostRuntime) {
     if let Err(failure) = answer_all(&mut rt.stdin(), &mut rt.stdout(), &mut rt.stderr()) {
         streams::tell(&mut rt.stderr(), failure.line());
@@ -81,20 +79,12 @@ fn put_case(out: &mut [u8; LINE], case: &[u8]) -> usize
     ensures { result ≤ length out.new }
 {
     let g = gate_in(case);
-    let r = tried(g, case);
-    let answer = r.answer;
-    let after = r.gate;
-    let at = put_answer(out, flag(g), answers::number(answer));
-    let end = put_changes(out, at, case, after);
-    put_byte(out, end, LF)
-}
-
-fn put_answer(out: &mut [u8; LINE], f: u8, n: u64) -> usize
-    ensures { result ≤ 22 }
-{
-    let a = put_byte(out, 0, f);
+    let answered = tried(g, case);
+    let a = put_byte(out, 0, flag(g));
     let b = put_byte(out, a, SPACE);
-    put_number(out, b, n)
+    let c = put_number(out, b, answers::number(answered.answer));
+    let d = put_changes(out, c, case, answered.gate);
+    put_byte(out, d, LF)
 }
 
 // Each byte of a gate that differs from the case's own.
@@ -103,10 +93,8 @@ fn put_changes(out: &mut [u8; LINE], at: usize, case: &[u8], g: Gate) -> usize
     ensures { result ≤ at + 42 * 990 }
 {
     let mut end = at;
-    let mut i: usize = 0;
-    while i < GATE {
+    for i in 0..GATE {
         end = put_change(out, end, i, byte_at(case, i), byte_of(g, i));
-        i += 1;
     }
     end
 }
@@ -120,6 +108,6 @@ fn put_change(out: &mut [u8; LINE], at: usize, i: usize, old: u8, new: u8) -> us
     }
     let a = put_byte(out, at, SPACE);
     let b = put_number(out, a, i as u64);
-    let c = put_byte(out, b, EQUALS);
+    let c = put_byte(out, b, b'=');
     put_number(out, c, u64::from(new))
 }

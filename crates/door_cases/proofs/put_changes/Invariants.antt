@@ -1,9 +1,6 @@
 -- Each byte that was looked at has written at most 42.
-use Rattle.std.proofs.Common.{◌+◌, ◌-◌, ◌*◌, ◌≤◌}
+use Rattle.std.proofs.Common.{◌+◌, ◌*◌, ◌≤◌}
 use Rattle.door_cases.proofs.put_changes.Given as goal
 
 abbrev pub invariant-loop-i : goal.invariant-loop-i
-invariant-loop-i l = (l.i ≤ 990) × (l.end ≤ l.at + 42 * l.i)
-
-abbrev pub decreases-loop-i : goal.decreases-loop-i
-decreases-loop-i l = 990 - l.i
+invariant-loop-i l = l.end ≤ l.at + 42 * l.i

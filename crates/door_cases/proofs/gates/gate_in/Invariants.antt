@@ -1,9 +1,0 @@
--- The measure is the number of rows that are left.
-use Rattle.std.proofs.Common.{◌-◌, ◌≤◌}
-use Rattle.door_cases.proofs.gates.gate_in.Given as goal
-
-abbrev pub invariant-loop-i : goal.invariant-loop-i
-invariant-loop-i l = l.i ≤ 64
-
-abbrev pub decreases-loop-i : goal.decreases-loop-i
-decreases-loop-i l = 64 - l.i
