@@ -85,28 +85,26 @@ pub fn returned(g: Group, after: Result<Group, Refusal>) -> Answered
 
 // WHO IS THERE
 
+// A number as an index below n.
+fn index_below(n: usize, number: u8) -> Result<usize, Refusal>
+    ensures { MatchResult result (λ i. (i ≡ number) × (i < n)) (λ e. (e ≡ NoSuch) × (n ≤ number)) }
+{
+    let i = usize::from(number);
+    if i < n { Ok(i) } else { Err(Refusal::NoSuch) }
+}
+
 // The index of a context.
 pub fn context(c: Context) -> Result<usize, Refusal>
     ensures { MatchResult result (λ i. (i ≡ c.0) × (i < max_contexts)) (λ e. (e ≡ NoSuch) × (max_contexts ≤ c.0)) }
 {
-    let i = usize::from(c.0);
-    if i < Group::MAX_CONTEXTS {
-        Ok(i)
-    } else {
-        Err(Refusal::NoSuch)
-    }
+    index_below(Group::MAX_CONTEXTS, c.0)
 }
 
 // The index of a server.
 fn server(s: Server) -> Result<usize, Refusal>
     ensures { MatchResult result (λ i. (i ≡ s.0) × (i < max_servers)) (λ e. (e ≡ NoSuch) × (max_servers ≤ s.0)) }
 {
-    let i = usize::from(s.0);
-    if i < Group::MAX_SERVERS {
-        Ok(i)
-    } else {
-        Err(Refusal::NoSuch)
-    }
+    index_below(Group::MAX_SERVERS, s.0)
 }
 
 // WHAT THE GROUP HOLDS OF A CONTEXT
