@@ -1,10 +1,9 @@
 // A line of text: the numbers behind its letter, and whether they fit their widths.
 #![tactic(auto)]
 
-ghost use Rattle.std.specs.Prelude.{◌≡◌, true, map, ◌≤◌, length, take, set};
-ghost use Rattle.fields.specs.Fields.{fields, Placed};
+ghost use Rattle.std.specs.Prelude.{◌≡◌, true, ◌≤◌, length, take};
 ghost use Rattle.text.specs.Text.{bits32};
-ghost use Rattle.lines.specs.Lines.{max_line, value_of, begins, values_of, fit_in, all_fit};
+ghost use Rattle.lines.specs.Lines.{value_of, begins, values_of, fit_in, all_fit};
 
 use numerals::{NO_PLAIN, plain_value};
 
@@ -26,13 +25,13 @@ pub fn values_of(line: &[u8], letter: u8, separator: u8, v: &mut [u64; MOST]) ->
     ensures v_after { take result v.new ≡ values_of letter separator line.now }
 {
     if !is_begun(line, letter, separator) {
-        place(v, 0, NO_PLAIN);
+        v[0] = NO_PLAIN;
         return 1;
     }
     if line.len() == 1 {
         return 0;
     }
-    read_values(&line[2..], separator, v)
+    fields::read_each(&line[2..], separator, v, value)
 }
 
 // Whether a line is the letter alone, or begins with it and a separator.
@@ -52,31 +51,6 @@ fn is_begun(line: &[u8], letter: u8, separator: u8) -> bool
         return true;
     }
     line[1] == separator
-}
-
-// Reads the fields one by one, each to its place while there are places, and tells how many there are.
-fn read_values(s: &[u8], separator: u8, v: &mut [u64]) -> usize
-    requires { length s.now ≤ max_line }
-    ensures value { result ≡ length (fields separator s.now) }
-    ensures placed { Placed 0 (map value_of (fields separator s.now)) v.old v.new }
-{
-    let mut n = 0;
-    let mut a = 0;
-    while a <= s.len() {
-        let e = fields::end(s, a, separator);
-        place(v, n, value(&s[a..e]));
-        n += 1;
-        a = e + 1;
-    }
-    n
-}
-
-fn place(v: &mut [u64], n: usize, x: u64)
-    ensures { v.new ≡ set v.old n x }
-{
-    if n < v.len() {
-        v[n] = x;
-    }
 }
 
 // The number of a field.

@@ -1,12 +1,10 @@
 // An order as a line of text: its fields read, and the quote that it asks for.
 #![tactic(auto)]
 
-ghost use Rattle.std.specs.Prelude.{◌≡◌, ◌≤◌, pos, length, set};
+ghost use Rattle.std.specs.Prelude.{◌≡◌, ◌≤◌, length};
 ghost use Rattle.rules.specs.Limits.{max_lines};
-ghost use Rattle.text.specs.Text.{comma};
-ghost use Rattle.fields.specs.Fields.{fields, Placed};
 ghost use Rattle.quote.specs.Told.{told};
-ghost use Rattle.order.specs.Orders.{max_bytes, asked, values};
+ghost use Rattle.order.specs.Orders.{asked};
 ghost use Rattle.order.specs.Steps.{max_fields, in_column, Column};
 
 use numerals::field_value;
@@ -27,7 +25,7 @@ pub fn ask(s: &[u8]) -> Result<u64, Refusal>
         return Err(Refusal::BadLines);
     }
     let mut v = [-1i64; MAX_FIELDS];
-    let n = read_fields(s, &mut v);
+    let n = fields::read_each(s, COMMA, &mut v, field_value);
     if MAX_FIELDS < n {
         return Err(Refusal::BadLines);
     }
@@ -46,31 +44,6 @@ pub fn ask(s: &[u8]) -> Result<u64, Refusal>
         &caps[..b],
         &tidies[..c],
     )
-}
-
-// Reads the fields one by one, each to its place while there are places, and tells how many there are.
-fn read_fields(s: &[u8], v: &mut [i64]) -> usize
-    requires { length s.now ≤ max_bytes }
-    ensures value { result ≡ length (fields comma s.now) }
-    ensures placed { Placed (pos 0) (values s.now) v.old v.new }
-{
-    let mut n = 0;
-    let mut a = 0;
-    while a <= s.len() {
-        let e = fields::end(s, a, COMMA);
-        place(v, n, field_value(&s[a..e]));
-        n += 1;
-        a = e + 1;
-    }
-    n
-}
-
-fn place(v: &mut [i64], n: usize, x: i64)
-    ensures { v.new ≡ set v.old n x }
-{
-    if n < v.len() {
-        v[n] = x;
-    }
 }
 
 fn in_column(n: usize, from: usize) -> usize

@@ -3,7 +3,8 @@
 use Prim.Native.Nat.{ℕ, ◌+◌, ◌*◌, ◌≤◌, ◌<◌}
 use native.Mathlib.Omega.{arith}
 use mathlib.Core.Path.{◌≡◌, sym, ap, ◌∙◌}
-use mathlib.Core.List.{List}
+use mathlib.Core.List.{List, map}
+use borrow.Author.Rules.{rules}
 use lib.IntN.{ℤ, pos}
 use lib.ListN.{length, get_or, take, drop, replicate}
 use lib.Seq.{length-take-le}
@@ -12,7 +13,7 @@ use Rattle.quote.proofs.Ranges.{read_back}
 use Rattle.fields.specs.Fields.{fields, Placed}
 use Rattle.fields.proofs.Placed.{placed_at}
 use Rattle.text.specs.Text.{comma}
-use Rattle.numerals.specs.Numbers.{out_of_range}
+use Rattle.numerals.specs.Numbers.{out_of_range, field_of}
 use Rattle.order.specs.Orders.{values, every_third}
 use Rattle.order.specs.Steps.{max_fields, in_column, Column}
 use Rattle.order.proofs.Columns.{column-is}
@@ -25,11 +26,12 @@ Read from k column vs = (k ≤ length column) × (take k column ≡ every_third 
 
 -- the values of the fields, how many there are, and which
 module _ (s : List ℕ) (n : ℕ) (v : List ℤ) (found : n ≡ length (fields comma s))
-    (placed : Placed (pos 0) (values s) (replicate max_fields out_of_range) v) where
+    (placed : Placed (pos 0) (map field_of (fields comma s)) (replicate max_fields out_of_range) v) where
   counted : n ≡ length (values s)
   counted = found ∙ sym (length-values s)
 
   at : (j : ℕ) → j < max_fields → get_or v j (pos 0) ≡ get_or (values s) j out_of_range
+  unfolding values
   at j h = placed_at (pos 0) (values s) v max_fields out_of_range placed j h
 
   -- one of the columns, where the fields are read and are not too many
@@ -52,71 +54,78 @@ returns-then-n-gt-MAX_FIELDS c =
     let s = c.args.s.now in
     sym (
     many-fields s c.if-s-gt-MAX_BYTES.false
-    (omega (arith, c.read_fields-n.ensures.value, c.if-n-gt-MAX_FIELDS.true))
+    (omega (arith, c.read_each-n.ensures.value, c.if-n-gt-MAX_FIELDS.true))
     )
 
 pub slice_bounds-calls-end : goal.slice_bounds-calls-end
 slice_bounds-calls-end c =
-    let f = c.read_fields-n in
+    let f = c.read_each-n in
+    let placed = f.ensures.placed field_of (pos 0) (λ t x h. search rules) in
     let few = c.if-n-gt-MAX_FIELDS.false in
-    let calls = column-read c.args.s.now f.result f.new.v f.ensures.value f.ensures.placed few 4 (omega arith)
+    let calls = column-read c.args.s.now f.result f.new.v f.ensures.value placed few 4 (omega arith)
     c.in_column-a.result c.in_column-a.ensures c.column-calls.result c.column-calls.ensures in
     calls.0
 
 pub slice_bounds-budget-end : goal.slice_bounds-budget-end
 slice_bounds-budget-end c =
-    let f = c.read_fields-n in
+    let f = c.read_each-n in
+    let placed = f.ensures.placed field_of (pos 0) (λ t x h. search rules) in
     let few = c.if-n-gt-MAX_FIELDS.false in
-    let calls = column-read c.args.s.now f.result f.new.v f.ensures.value f.ensures.placed few 4 (omega arith)
+    let calls = column-read c.args.s.now f.result f.new.v f.ensures.value placed few 4 (omega arith)
     c.in_column-a.result c.in_column-a.ensures c.column-calls.result c.column-calls.ensures in
     sym (length-take-le c.in_column-a.result c.column-calls.result calls.0)
 
 pub slice_bounds-caps-end : goal.slice_bounds-caps-end
 slice_bounds-caps-end c =
-    let f = c.read_fields-n in
+    let f = c.read_each-n in
+    let placed = f.ensures.placed field_of (pos 0) (λ t x h. search rules) in
     let few = c.if-n-gt-MAX_FIELDS.false in
-    let caps = column-read c.args.s.now f.result f.new.v f.ensures.value f.ensures.placed few 5 (omega arith)
+    let caps = column-read c.args.s.now f.result f.new.v f.ensures.value placed few 5 (omega arith)
     c.in_column-b.result c.in_column-b.ensures c.column-caps.result c.column-caps.ensures in
     caps.0
 
 pub slice_bounds-budget-end-2 : goal.slice_bounds-budget-end-2
 slice_bounds-budget-end-2 c =
-    let f = c.read_fields-n in
+    let f = c.read_each-n in
+    let placed = f.ensures.placed field_of (pos 0) (λ t x h. search rules) in
     let few = c.if-n-gt-MAX_FIELDS.false in
-    let caps = column-read c.args.s.now f.result f.new.v f.ensures.value f.ensures.placed few 5 (omega arith)
+    let caps = column-read c.args.s.now f.result f.new.v f.ensures.value placed few 5 (omega arith)
     c.in_column-b.result c.in_column-b.ensures c.column-caps.result c.column-caps.ensures in
     sym (length-take-le c.in_column-b.result c.column-caps.result caps.0)
 
 pub slice_bounds-tidies-end : goal.slice_bounds-tidies-end
 slice_bounds-tidies-end c =
-    let f = c.read_fields-n in
+    let f = c.read_each-n in
+    let placed = f.ensures.placed field_of (pos 0) (λ t x h. search rules) in
     let few = c.if-n-gt-MAX_FIELDS.false in
-    let tidies = column-read c.args.s.now f.result f.new.v f.ensures.value f.ensures.placed few 6 (omega arith)
+    let tidies = column-read c.args.s.now f.result f.new.v f.ensures.value placed few 6 (omega arith)
     c.in_column-c.result c.in_column-c.ensures c.column-tidies.result c.column-tidies.ensures in
     tidies.0
 
 pub slice_bounds-budget-end-3 : goal.slice_bounds-budget-end-3
 slice_bounds-budget-end-3 c =
-    let f = c.read_fields-n in
+    let f = c.read_each-n in
+    let placed = f.ensures.placed field_of (pos 0) (λ t x h. search rules) in
     let few = c.if-n-gt-MAX_FIELDS.false in
-    let tidies = column-read c.args.s.now f.result f.new.v f.ensures.value f.ensures.placed few 6 (omega arith)
+    let tidies = column-read c.args.s.now f.result f.new.v f.ensures.value placed few 6 (omega arith)
     c.in_column-c.result c.in_column-c.ensures c.column-tidies.result c.column-tidies.ensures in
     sym (length-take-le c.in_column-c.result c.column-tidies.result tidies.0)
 
 pub returns : goal.returns
 returns c =
     let s = c.args.s.now in
-    let f = c.read_fields-n in
+    let f = c.read_each-n in
+    let placed = f.ensures.placed field_of (pos 0) (λ t x h. search rules) in
     let few = c.if-n-gt-MAX_FIELDS.false in
-    let calls = column-read c.args.s.now f.result f.new.v f.ensures.value f.ensures.placed few 4 (omega arith)
+    let calls = column-read c.args.s.now f.result f.new.v f.ensures.value placed few 4 (omega arith)
     c.in_column-a.result c.in_column-a.ensures c.column-calls.result c.column-calls.ensures in
-    let caps = column-read c.args.s.now f.result f.new.v f.ensures.value f.ensures.placed few 5 (omega arith)
+    let caps = column-read c.args.s.now f.result f.new.v f.ensures.value placed few 5 (omega arith)
     c.in_column-b.result c.in_column-b.ensures c.column-caps.result c.column-caps.ensures in
-    let tidies = column-read c.args.s.now f.result f.new.v f.ensures.value f.ensures.placed few 6 (omega arith)
+    let tidies = column-read c.args.s.now f.result f.new.v f.ensures.value placed few 6 (omega arith)
     c.in_column-c.result c.in_column-c.ensures c.column-tidies.result c.column-tidies.ensures in
     let v : ℕ → ℤ = λ j. get_or f.new.v j (pos 0) in
     let at_ : (j : ℕ) → j < max_fields → v j ≡ get_or (values s) j out_of_range =
-    at s f.result f.new.v f.ensures.value f.ensures.placed in
+    at s f.result f.new.v f.ensures.value placed in
     c.budget.ensures
     ∙ same-order (values s)
     (read_back (v 0) c.budget-arg-1.given ∙ at_ 0 (omega arith))
