@@ -28,6 +28,7 @@ pub fn read_each<T: Copy, F: Fn(&[u8]) -> T>(s: &[u8], separator: u8, v: &mut [T
 {
     let mut n = 0;
     let mut a = 0;
+    // (A `for` over `s.split(..)` was tried: what the check itself writes for that loop, `iterator-loop-field`, fails.)
     while a <= s.len() {
         let e = end(s, a, separator);
         let x = read(&s[a..e]);
