@@ -143,7 +143,7 @@ pub fn ready(q: Queues) -> Outcome
     }
 }
 
-// Abort c: 10, 16, 15, 17.
+// Abort c: 10, 16, 17 where it is spent, else 15 where it doesn't wait.
 pub fn abort(q: Queues, setup: &Setup, keys: &mut [u32; 64], c: Client) -> Outcome
     requires { Homes setup.now.homes × (setup.now.clients ≤ max_clients) }
     ensures { (cs : List ℕ) → Answering setup.now (rules.abort c.0) q cs keys.old result cs keys.new }
@@ -161,7 +161,7 @@ pub fn abort(q: Queues, setup: &Setup, keys: &mut [u32; 64], c: Client) -> Outco
         };
     }
     let k = rows::home(setup, c);
-    if serving::is_spent(q.service.server, c) {
+    if serving::is_spent(q.service.server, usize::from(c.0)) {
         return Outcome {
             answer: Answer::SpentAlready,
             queues: q,

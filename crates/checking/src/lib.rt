@@ -91,7 +91,7 @@ fn same_served(says: Option<Client>, s: Server) -> bool
 {
     match says {
         None => !serving::is_serving(s),
-        Some(c) => serving::serves(s, c),
+        Some(c) => serving::serves(s, usize::from(c.0)),
     }
 }
 

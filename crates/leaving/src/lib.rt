@@ -108,7 +108,7 @@ pub fn aborted(mut q: Queues, setup: &Setup, keys: &[u32; 64], c: Client) -> Que
         q.rooms[k.0] = sets::without(q.rooms[k.0], at);
         return q;
     }
-    if serving::is_front(q.service.server, c) {
+    if serving::is_front(q.service.server, at) {
         let n = moves::served(q, Server::Spent(c), q.service.units);
         return gone(n, setup, keys, c);
     }

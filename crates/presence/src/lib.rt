@@ -21,5 +21,7 @@ pub fn present(line: Line, room: u64, background: &[u8; 64], server: Server, c: 
     requires { c.0 < max_clients }
     ensures { result ≡ present_in line.places room background.now (server_of server) c.0 }
 {
-    waits(line, room, c) || places::stands(background, rows::byte(c)) || serving::serves(server, c)
+    waits(line, room, c)
+        || places::stands(background, rows::byte(c))
+        || serving::serves(server, usize::from(c.0))
 }

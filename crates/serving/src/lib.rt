@@ -50,27 +50,27 @@ pub fn served(s: Server) -> Option<Client>
 }
 
 // Whether c is in service.
-pub fn serves(s: Server, c: Client) -> bool
-    ensures { result ≡ serves (server_of s) c.0 }
+pub fn serves(s: Server, c: usize) -> bool
+    ensures { result ≡ serves (server_of s) c }
 {
     match served(s) {
-        Some(d) => d.0 == c.0,
+        Some(d) => usize::from(d.0) == c,
         None => false,
     }
 }
 
 // Whether c is in service as the front of its line.
-pub fn is_front(s: Server, c: Client) -> bool
-    ensures { result ≡ is_front (server_of s) c.0 }
+pub fn is_front(s: Server, c: usize) -> bool
+    ensures { result ≡ is_front (server_of s) c }
 {
-    matches!(s, Server::Front(d) if d.0 == c.0)
+    matches!(s, Server::Front(d) if usize::from(d.0) == c)
 }
 
 // Whether c is in service as a spent client.
-pub fn is_spent(s: Server, c: Client) -> bool
-    ensures { result ≡ is_spent (server_of s) c.0 }
+pub fn is_spent(s: Server, c: usize) -> bool
+    ensures { result ≡ is_spent (server_of s) c }
 {
-    matches!(s, Server::Spent(d) if d.0 == c.0)
+    matches!(s, Server::Spent(d) if usize::from(d.0) == c)
 }
 
 // A cluster is blocked exactly while a spent client of that cluster is in service.

@@ -29,20 +29,15 @@ fn zero_priorities_from(q: &[u16], from: usize) -> bool
 
 // Client rows past N, and sizes past K, are zero.
 #[tactic(auto, using(crate::proofs::Sets::all_zero))]
-fn is_trimmed<'a>(
-    sizes: &'a [u8; 8],
-    kinds: &'a [u8; 64],
-    homes: &'a [u8; 64],
-    priorities: &'a [u16; 64],
-    k: usize,
-    n: usize,
-) -> bool
-    ensures { result ≡ trimmed sizes.now kinds.now homes.now priorities.now k n }
+fn is_trimmed(s: &Setup) -> bool
+    ensures { result ≡ trimmed s.now.sizes s.now.kinds s.now.homes s.now.priorities s.now.clusters s.now.clients }
 {
-    places::holds_only_from(sizes, k, 0)
-        && places::holds_only_from(kinds, n, 0)
-        && places::holds_only_from(homes, n, 0)
-        && zero_priorities_from(priorities, n)
+    let k = usize::from(s.clusters);
+    let n = usize::from(s.clients);
+    places::holds_only_from(&s.sizes, k, 0)
+        && places::holds_only_from(&s.kinds, n, 0)
+        && places::holds_only_from(&s.homes, n, 0)
+        && zero_priorities_from(&s.priorities, n)
 }
 
 pub fn setup_sound(s: Setup) -> bool
@@ -52,14 +47,7 @@ pub fn setup_sound(s: Setup) -> bool
     if !gate::is_accepted(verdict) {
         return false;
     }
-    is_trimmed(
-        &s.sizes,
-        &s.kinds,
-        &s.homes,
-        &s.priorities,
-        usize::from(s.clusters),
-        usize::from(s.clients),
-    )
+    is_trimmed(&s)
 }
 
 // ITS CLIENTS

@@ -7,7 +7,7 @@ ghost use Rattle.parts.specs.Shows.{Homes};
 ghost use Rattle.soundness.specs.Clauses.{sound_of};
 ghost use Rattle.sound_check.specs.Answers.{charge_fits, charges_fit, deadline_fits, deadlines_fit};
 
-use gate::Gate;
+use gate::{Gate, Setup};
 
 // CHARGES
 
@@ -32,42 +32,29 @@ fn charges_sound(q: &[u32; 64], real: u64) -> bool
 // DEADLINES
 
 // A deadline is 0; or the setup goes by deadlines and its owner waits: is seen in a line, or is in its waiting room.
-fn deadline_sound(
-    homes: &[u8; 64],
-    rooms: [u64; 8],
-    timed: bool,
-    seen: u64,
-    owner: usize,
-    d: u32,
-) -> bool
-    requires { (owner < max_clients) × Homes homes.now }
-    ensures { result ≡ deadline_fits homes.now rooms timed seen owner d }
+fn deadline_sound(setup: &Setup, rooms: [u64; 8], seen: u64, owner: usize, d: u32) -> bool
+    requires { (owner < max_clients) × Homes setup.now.homes }
+    ensures { result ≡ deadline_fits setup.now.homes rooms setup.now.timed seen owner d }
 {
     if d == 0 {
         return true;
     }
-    if !timed {
+    if !setup.timed {
         return false;
     }
     if sets::member(seen, owner) {
         return true;
     }
-    let k = usize::from(homes[owner]);
+    let k = usize::from(setup.homes[owner]);
     sets::member(rooms[k], owner)
 }
 
-fn deadlines_sound<'a>(
-    q: &'a [u32; 64],
-    homes: &'a [u8; 64],
-    rooms: [u64; 8],
-    timed: bool,
-    seen: u64,
-) -> bool
-    requires { (length q.now ≡ max_clients) × Homes homes.now }
-    ensures { result ≡ deadlines_fit homes.now rooms timed seen q.now }
+fn deadlines_sound(q: &[u32; 64], setup: &Setup, rooms: [u64; 8], seen: u64) -> bool
+    requires { (length q.now ≡ max_clients) × Homes setup.now.homes }
+    ensures { result ≡ deadlines_fit setup.now.homes rooms setup.now.timed seen q.now }
 {
     for (c, d) in q.iter().enumerate() {
-        if !deadline_sound(homes, rooms, timed, seen, c, *d) {
+        if !deadline_sound(setup, rooms, seen, c, *d) {
             return false;
         }
     }
@@ -113,5 +100,5 @@ pub fn sound(g: Gate) -> bool
     if !charges_sound(&g.charges, clients.real) {
         return false;
     }
-    deadlines_sound(&g.deadlines, &s.homes, rooms, s.timed, seen)
+    deadlines_sound(&g.deadlines, &s, rooms, seen)
 }

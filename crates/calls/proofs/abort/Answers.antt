@@ -39,7 +39,7 @@ returns-then-is_spent c =
     λ cs s h.
     refuses h (known (abort d)) SpentAlready
     (abort-spent c.args.setup.now s d c.from.ensures c.if-from-c.false c.is_real_time.ensures
-    c.if-not-is_real_time.false (c.is_spent.ensures ∙ ap (λ x. is_spent x d) h.queues.service.server)
+    c.if-not-is_real_time.false (rw c.from-2.ensures at c.is_spent.ensures ∙ ap (λ x. is_spent x d) h.queues.service.server)
     c.if-is_spent.true)
     (λ z. omega arith)
 
@@ -49,7 +49,7 @@ returns-then-not-waits c =
     λ cs s h.
     refuses h (known (abort d)) NotWaiting
     (abort-absent c.args.setup.now s d c.from.ensures c.if-from-c.false c.is_real_time.ensures
-    c.if-not-is_real_time.false (c.is_spent.ensures ∙ ap (λ x. is_spent x d) h.queues.service.server)
+    c.if-not-is_real_time.false (rw c.from-2.ensures at c.is_spent.ensures ∙ ap (λ x. is_spent x d) h.queues.service.server)
     c.if-is_spent.false (c.waits.ensures ∙ waits-is h.queues c.home-k.ensures _ _) c.if-not-waits.true)
     (λ z. omega arith)
 
@@ -62,7 +62,7 @@ returns c =
     λ cs s h.
     accepts (abort d)
     (abort-fine v s d c.from.ensures c.if-from-c.false c.is_real_time.ensures
-    c.if-not-is_real_time.false (c.is_spent.ensures ∙ ap (λ x. is_spent x d) h.queues.service.server)
+    c.if-not-is_real_time.false (rw c.from-2.ensures at c.is_spent.ensures ∙ ap (λ x. is_spent x d) h.queues.service.server)
     c.if-is_spent.false (c.waits.ensures ∙ waits-is h.queues c.home-k.ensures _ _) c.if-not-waits.false)
     (c.aborted-n.ensures s (fine h) (refills v s h.sound h.keys, turn v s h.sound d) h.queues)
     (abort-charge h d) (abort-keys h.keys d low c.due.ensures)

@@ -16,4 +16,4 @@ returns-in-Some c =
     let a = c.args in
     let v = server_of a.s in
     rw c.in-Some.is
-    (c.serves.ensures ∙ sym (client-served v _))
+    (rw c.from.ensures at c.serves.ensures ∙ sym (client-served v _))

@@ -25,7 +25,7 @@ returns-then-is_front c =
     λ s fine e h.
     let home = c.home-k.ensures in
     abort-served s d (rw c.from-at.ensures at c.member.ensures ∙ room-has h home _) c.if-member.false
-    (c.is_front.ensures ∙ ap (λ x. is_front x d) h.service.server) c.if-is_front.true
+    (rw c.from-at.ensures at c.is_front.ensures ∙ ap (λ x. is_front x d) h.service.server) c.if-is_front.true
     (by_rank d (spend d s) s (spend d s) refl
     (c.gone.ensures (spend d s) fine (refills-kept e.0 refl refl)
     (rw c.served-n.ensures (shows-spend h d c.requires.0 c.args.c refl))))
@@ -38,7 +38,7 @@ returns-then-front-byte c =
     let first = ap (λ x. eqb x d) c.front.ensures ∙ heads-at h home _ in
     let same = eq-eqb _ d (c.if-front-byte.true ∙ c.byte.ensures) in
     abort-front s d (rw c.from-at.ensures at c.member.ensures ∙ room-has h home _) c.if-member.false
-    (c.is_front.ensures ∙ ap (λ x. is_front x d) h.service.server) c.if-is_front.false
+    (rw c.from-at.ensures at c.is_front.ensures ∙ ap (λ x. is_front x d) h.service.server) c.if-is_front.false
     first same (c.front_aborted.ensures s fine (e.0, e.1 (sym first ∙ same)) h)
 
 pub returns : goal.returns
@@ -49,5 +49,5 @@ returns c =
     let first = ap (λ x. eqb x d) c.front.ensures ∙ heads-at h home _ in
     let other = ne_eqb _ d (λ z. c.if-front-byte.false (z ∙ sym c.byte.ensures)) in
     abort-line s d (rw c.from-at.ensures at c.member.ensures ∙ room-has h home _) c.if-member.false
-    (c.is_front.ensures ∙ ap (λ x. is_front x d) h.service.server) c.if-is_front.false
+    (rw c.from-at.ensures at c.is_front.ensures ∙ ap (λ x. is_front x d) h.service.server) c.if-is_front.false
     first other (c.gone-2.ensures s fine e.0 h)

@@ -10,8 +10,8 @@ use Rattle.setup_check.proofs.is_trimmed.Goals.{then-holds_only_from-2, else-hol
 
 pub returns-then-holds_only_from-3 : goal.returns-then-holds_only_from-3
 returns-then-holds_only_from-3 c =
-    let a = c.args in
-    let z = c.zero_priorities_from.ensures ∙ all_zero (drop a.n a.priorities.now) in
+    let s = c.args.s.now in
+    let z = c.zero_priorities_from.ensures ∙ all_zero (drop c.from-n.result s.priorities) in
     let v = c.if-holds_only_from-3.true in
     elim c.if-holds_only_from-2.branch [
       | then-holds_only_from-2 x ↦
@@ -19,7 +19,7 @@ returns-then-holds_only_from-3 c =
           elim c.if-holds_only_from.branch [
             | then-holds_only_from y ↦
                 let k = sym y.holds_only_from-then-holds_only_from.ensures ∙ sym y.value-is ∙ x.if-holds_only_from-2.true in
-                rw (sym c.holds_only_from.ensures ∙ y.if-holds_only_from.true, k, h) z
+                rw (← c.from-k.ensures, ← c.from-n.ensures, sym c.holds_only_from.ensures ∙ y.if-holds_only_from.true, k, h) z
             | else-holds_only_from y ↦ clash x.if-holds_only_from-2.true (y.value-is ∙ y.if-holds_only_from.false)
           ]
       | else-holds_only_from-2 x ↦ clash v (x.value-is ∙ x.if-holds_only_from-2.false)

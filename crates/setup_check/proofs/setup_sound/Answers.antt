@@ -27,4 +27,4 @@ returns c =
           ∙ sym c.is_accepted.ensures ∙ c.if-not-is_accepted.false,
       le-leb s.cap max_cap (search rules),
       le-leb s.tidy max_tidy (search rules),
-    ) (rw (c.from-2.ensures, c.from.ensures) at c.is_trimmed.ensures)
+    ) c.is_trimmed.ensures

@@ -18,13 +18,13 @@ returns-then-d-eq0 c =
     let a = c.args in
     rw (le-leb a.d max_deadline (search rules), eq-eqb a.d 0 c.if-d-eq0.true)
 
-pub returns-then-not-timed : goal.returns-then-not-timed
-returns-then-not-timed c =
+pub returns-then-not-setup : goal.returns-then-not-setup
+returns-then-not-setup c =
     let a = c.args in
     rw (
       le-leb a.d max_deadline (search rules),
       ne_eqb a.d 0 c.if-d-eq0.false,
-      c.if-not-timed.true,
+      c.if-not-setup.true,
     )
 
 pub returns-then-member : goal.returns-then-member
@@ -33,7 +33,7 @@ returns-then-member c =
     rw (
       le-leb a.d max_deadline (search rules),
       ne_eqb a.d 0 c.if-d-eq0.false,
-      c.if-not-timed.false,
+      c.if-not-setup.false,
       sym c.member.ensures ∙ c.if-member.true,
     )
 
@@ -49,6 +49,6 @@ returns c =
     rw (
       le-leb a.d max_deadline (search rules),
       ne_eqb a.d 0 c.if-d-eq0.false,
-      c.if-not-timed.false,
+      c.if-not-setup.false,
       sym c.member.ensures ∙ c.if-member.false,
     ) (rw c.from-k.ensures at c.member-2.ensures)

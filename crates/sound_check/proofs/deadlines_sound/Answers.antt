@@ -15,13 +15,13 @@ use Rattle.sound_check.proofs.deadlines_sound.Goals as goal
 pub loop-c-init : goal.loop-c-init
 loop-c-init c =
     let a = c.args in
-    all_none (fits a.homes.now a.rooms a.timed a.seen a.q.now)
+    all_none (fits a.setup.now.homes a.rooms a.setup.now.timed a.seen a.q.now)
 
 pub returns-then-not-deadline_sound : goal.returns-then-not-deadline_sound
 unfolding deadlines_fit
 returns-then-not-deadline_sound c =
     let a = c.args in
-    let tests = fits a.homes.now a.rooms a.timed a.seen a.q.now in
+    let tests = fits a.setup.now.homes a.rooms a.setup.now.timed a.seen a.q.now in
     rw (
       all-not max_clients tests c.loop-c.c (omega (arith, c.requires.0))
           (sym c.deadline_sound.ensures ∙ c.if-not-deadline_sound.true),
@@ -31,7 +31,7 @@ returns-then-not-deadline_sound c =
 pub loop-c-preserved : goal.loop-c-preserved
 loop-c-preserved c =
     let a = c.args in
-    let tests = fits a.homes.now a.rooms a.timed a.seen a.q.now in
+    let tests = fits a.setup.now.homes a.rooms a.setup.now.timed a.seen a.q.now in
     all_more c.loop-c.c tests
     (sym c.deadline_sound.ensures ∙ c.if-not-deadline_sound.false) c.loop-c.invariant
 
@@ -39,7 +39,7 @@ pub returns : goal.returns
 unfolding deadlines_fit
 returns c =
     let a = c.args in
-    let tests = fits a.homes.now a.rooms a.timed a.seen a.q.now in
+    let tests = fits a.setup.now.homes a.rooms a.setup.now.timed a.seen a.q.now in
     rw (
       eq-eqb (length a.q.now) max_clients c.requires.0,
       all_done max_clients c.loop-c.c tests (omega (arith, c.requires.0)) (omega (arith, c.requires.0)) c.loop-c.invariant,

@@ -13,4 +13,4 @@ abbrev pub fits : List ℕ → List ℕ → Bool → ℕ → List ℕ → ℕ �
 fits homes rooms timed seen q c = deadline_fits homes rooms timed seen c (get_or q c 0)
 
 abbrev pub invariant-loop-c : goal.invariant-loop-c
-invariant-loop-c l = all_below l.c (fits l.homes l.rooms l.timed l.seen l.q) ≡ true
+invariant-loop-c l = all_below l.c (fits l.setup.homes l.rooms l.setup.timed l.seen l.q) ≡ true
