@@ -39,12 +39,12 @@ pub enum Refusal {
 // What an event or a question answers: it is accepted, or refused.
 pub type Answer = Result<(), Refusal>;
 
-// An answer's number.
-pub fn number(a: Answer) -> u64
+// An answer's number, whatever an accepted one hands over.
+pub fn number<T: Drop>(a: Result<T, Refusal>) -> u64
     ensures { result ≡ number_of a }
 {
     match a {
-        Ok(()) => 0,
+        Ok(_) => 0,
         Err(Refusal::Unsound) => 19,
         Err(Refusal::NoSuch) => 40,
         Err(Refusal::QueuedAlready) => 41,
@@ -59,7 +59,7 @@ pub fn number(a: Answer) -> u64
     }
 }
 
-// The answer, and the group after. It stays a struct for what the theorems of the doors say: a refused event hands back
+// The answer, and the group after. It stays a struct for `group_step.Theorems.refused-same`: a refused event hands back
 // the group, which an Err of a Result would not have.
 #[derive(Clone, Copy)]
 pub struct Answered {

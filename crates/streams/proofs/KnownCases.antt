@@ -35,6 +35,9 @@ no_room = (refl, λ _ l. absurd (omega (arith, l)))
 failed-keeps : Reads (Some (7 ∷ [])) (Some (7 ∷ [])) (0 ∷ []) (Err Unread)
 failed-keeps = refl
 
+failed-without-room : Reads (Some (7 ∷ [])) (Some (7 ∷ [])) [] (Err Unread)
+failed-without-room = refl
+
 failed-loses : Reads (Some (7 ∷ [])) (Some []) (0 ∷ []) (Err Unread) → ⊥
 failed-loses h = cc
 
