@@ -7,8 +7,7 @@ ghost use Rattle.answers.specs.Answers.{number_of};
 use parts::Queues;
 
 // What an event answers. Unknown is for an invoke without the form that its setup calls for, and for a record that is
-// no event. Accepted is one of the answers, and no Ok beside an error: each line of a report prints an answer's number,
-// 0 for accepted too, and one definition gives each case its number.
+// no event.
 #[derive(Clone, Copy)]
 pub enum Answer {
     Accepted,
