@@ -47,7 +47,6 @@ use Rattle.logs.specs.Opening.{told, opening_of}
 use Rattle.layout.specs.Layout.{record_size}
 use Rattle.logs.specs.Reading.{whole, heards_in}
 use Rattle.report.specs.Report.{heading, entry_lines, refused_line, last_lines, replayed, report_of}
-use Rattle.std.specs.Prelude as code
 use Rattle.quote.specs.declared.Refusal as quoted
 use Rattle.quote.specs.declared.Refusal.TheVariants as quoted-as
 use Rattle.quote.specs.Told as quotes
@@ -210,8 +209,8 @@ verdict-number (Err (given.BadSize k)) = refl
 verdict-number (Err (given.BadRow c)) = refl
 
 -- and of a quote.
-pub quote-number : (a : code.Result ℕ quoted.Refusal) → has (quotes.told a).answer of_order ≡ true
-quote-number (code.Ok b) = refl
-quote-number (code.Err (quoted-as.FieldOut at)) = refl
-quote-number (code.Err quoted-as.OverPeriod) = refl
-quote-number (code.Err quoted-as.BadLines) = refl
+pub quote-number : (a : std.Result ℕ quoted.Refusal) → has (quotes.told a).answer of_order ≡ true
+quote-number (std.Ok b) = refl
+quote-number (std.Err (quoted-as.FieldOut at)) = refl
+quote-number (std.Err quoted-as.OverPeriod) = refl
+quote-number (std.Err quoted-as.BadLines) = refl
