@@ -1,3 +1,4 @@
--- What is proved of reads.
+-- What is proved of reads, and cases of what is told.
+mod FailureCases
 pub mod Known
 pub mod KnownCases
