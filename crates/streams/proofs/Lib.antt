@@ -2,3 +2,4 @@
 mod FailureCases
 pub mod Known
 pub mod KnownCases
+mod WholeCases

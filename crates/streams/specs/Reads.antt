@@ -1,7 +1,9 @@
 -- What reads do to the bytes that an input still has, where those are known.
 -- Assumes nothing.
-use Rattle.std.specs.Prelude.{ℕ, ◌<◌, ◌≡◌, List, length, take, Result, Ok, Err}
+use Rattle.std.specs.Prelude.{ℕ, ◌+◌, ◌<◌, ◌≡◌, cond, eqb, List, length, take, Result, Ok, Err}
 use Rattle.std.specs.declared.option.Option.{Option}
+use Rattle.std.specs.declared.ops.ControlFlow.{ControlFlow}
+use Rattle.std.specs.declared.ops.ControlFlow.TheVariants.{Continue, Break}
 use Rattle.std.specs.Io.KnownBytes.{Consumes, Keeps, IsAtEnd}
 use Rattle.streams.specs.declared.Failure.{Failure}
 use Rattle.streams.specs.declared.Failure.TheVariants.{Unread, Unwritten}
@@ -19,3 +21,9 @@ abbrev pub ReadsWhole : Option (List ℕ) → Option (List ℕ) → List ℕ →
 ReadsWhole old new room (Ok n) = Consumes old new (take n room) × (n < length room → IsAtEnd new)
 ReadsWhole old new room (Err Unread) = Unit {0}
 ReadsWhole old new room (Err Unwritten) = ⊥
+
+-- A read that gave bytes leaves more to come. Only the end of the input makes them the whole, and no failure does; nor
+-- is the end told as a failure.
+abbrev pub standing_after : ℕ → Result ℕ Failure → ControlFlow (Result ℕ Failure) ℕ
+standing_after n (Ok k) = cond (eqb k 0) (Break (Ok n)) (Continue (n + k))
+standing_after n (Err f) = Break (Err f)

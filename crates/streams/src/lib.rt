@@ -3,13 +3,14 @@
 
 #![tactic(auto)]
 
-ghost use Rattle.std.specs.Prelude.{◌≡◌, MatchResult};
+ghost use Rattle.std.specs.Prelude.{◌≡◌, ◌+◌, ◌^◌, ◌<◌, MatchResult, IfOk, Ok, Err};
 ghost use Rattle.std.specs.Io.{ReadsAtMost};
 ghost use Rattle.std.specs.Io.KnownBytes.{Appends};
-ghost use Rattle.streams.specs.Reads.{Reads, ReadsWhole};
+ghost use Rattle.streams.specs.Reads.{Reads, ReadsWhole, standing_after};
 ghost use Rattle.streams.specs.Failures.{line_of};
 
 use std::io::{Read, Write};
+use std::ops::ControlFlow;
 
 // Why a program stops before its end.
 #[derive(Clone, Copy)]
@@ -35,7 +36,14 @@ pub fn read_some<R: Read>(input: &mut R, part: &mut [u8]) -> Result<usize, Failu
     ensures within { ReadsAtMost result part.new }
     ensures bytes { Reads (R.remaining input.old) (R.remaining input.new) part.new result }
 {
-    input.read(part).map_err(|_| Failure::Unread)
+    told(input.read(part))
+}
+
+// What a read answered: how many bytes came, or that it failed.
+fn told(read: std::io::Result<usize>) -> Result<usize, Failure>
+    ensures { MatchResult read (λ n. result ≡ Ok n) (λ _. result ≡ Err Failure.Unread) }
+{
+    read.map_err(|_| Failure::Unread)
 }
 
 // Reads to the end of an input, or as far as the room goes: how many bytes came.
@@ -45,13 +53,29 @@ pub fn read_whole<R: Read>(input: &mut R, room: &mut [u8]) -> Result<usize, Fail
 {
     let mut n = 0;
     while n < room.len() {
-        let k = read_some(input, &mut room[n..])?;
-        if k == 0 {
-            break;
+        let read = read_some(input, &mut room[n..]);
+        match standing_after(n, read) {
+            ControlFlow::Continue(more) => n = more,
+            ControlFlow::Break(whole) => return whole,
         }
-        n += k;
     }
     Ok(n)
+}
+
+// Where reading stands after a read behind n bytes: how many are held, of which there may be more, or what they are in
+// all.
+fn standing_after(
+    n: usize,
+    read: Result<usize, Failure>,
+) -> ControlFlow<Result<usize, Failure>, usize>
+    requires { IfOk read (λ k. n + k < 2 ^ 64) }
+    ensures { result ≡ standing_after n read }
+{
+    match read {
+        Ok(0) => ControlFlow::Break(Ok(n)),
+        Ok(k) => ControlFlow::Continue(n + k),
+        Err(failure) => ControlFlow::Break(Err(failure)),
+    }
 }
 
 // Writes all bytes.
