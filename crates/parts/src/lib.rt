@@ -79,7 +79,12 @@ pub fn keys_of(timed: bool, priorities: [u16; 64], deadlines: [u32; 64]) -> [u32
     if timed {
         return deadlines;
     }
-    priorities.map(|p| u32::from(p))
+    // A loop and not `map`, which takes the array apart place by place: a trace makes a column for each entry.
+    let mut keys = [0u32; 64];
+    for c in 0..64 {
+        keys[c] = u32::from(priorities[c]);
+    }
+    keys
 }
 
 // The deadlines that such a column holds: under priorities all are 0.

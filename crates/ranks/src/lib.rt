@@ -23,14 +23,19 @@ fn key(keys: &[u32; 64], c: usize) -> u32
 }
 
 // Whether client a outranks client b: by their keys, then by their numbers.
-#[tactic(auto, unfolding(crate::specs::Ranks::rank_by))]
 fn outranks(keys: &[u32; 64], a: usize, b: usize) -> bool
     requires { (a < max_clients) × (b < max_clients) }
     ensures { result ≡ rank_by keys.now a b }
 {
     let p = key(keys, a);
     let q = key(keys, b);
-    p < q || p == q && a < b
+    if p < q {
+        return true;
+    }
+    if p == q {
+        return a < b;
+    }
+    false
 }
 
 // THE HIGHEST AND THE LOWEST

@@ -7,6 +7,8 @@ mod lines;
 
 ghost use Rattle.std.specs.Prelude.{◌≡◌, ◌+◌, ◌*◌, ◌≤◌, length};
 ghost use Rattle.layout.specs.Layout.{record_size};
+ghost use Rattle.gate.specs.Heard.{record_in};
+ghost use Rattle.writing.specs.Writing.{record_put};
 ghost use Rattle.write_log.specs.Sizes.{max_room, input_bytes, most_records, line_bytes, text_bytes};
 
 use gate::{Record, Setup};
@@ -155,7 +157,9 @@ fn write_next(
     out: &mut [u8; TEXT],
 ) -> Standing
     requires { (s.index ≤ s.next) × (s.next ≤ input_bytes) × (s.end + line_bytes ≤ text_bytes) }
-    ensures { (result.index ≡ s.index + 1) × (s.next + record_size 1 ≤ result.next) × (result.end ≤ s.end + line_bytes) }
+    ensures lines { (result.index ≡ s.index + 1) × (s.next + record_size 1 ≤ result.next) × (result.end ≤ s.end + line_bytes) }
+    ensures used { result.used ≡ (record_put version timed (record_in r) s.used buffer.old).used }
+    ensures bytes { buffer.new ≡ (record_put version timed (record_in r) s.used buffer.old).bytes }
 {
     let answer = writing::write_record(buffer, s.used, version, timed, r);
     Standing {
