@@ -46,11 +46,11 @@ pub record Answers (v : Setup) (s : State) (x : Heard) (r : Outcome) (cs ks : Li
   pub charges : cs ≡ table max_clients (step_of (setup_of v) s x).charge
   pub keys : ShowsKeys v (step_of (setup_of v) s x) ks
 
--- So it is in every sound state that the queues q, charges cs and keys ks show, of the setup v; cs' and ks' are the
--- charges and keys after.
-abbrev pub Hearing : Setup → Heard → Queues → List ℕ → List ℕ → Outcome → List ℕ → List ℕ → Type 0
-Hearing v x q cs ks r cs' ks' = (s : State) → Holds v s q cs ks → Answers v s x r cs' ks'
+-- So it is in every sound state that the queues q, charges cs and keys ks show, of a setup of which p holds; cs' and
+-- ks' are the charges and keys after.
+abbrev pub Hearing : (Setup → Type 0) → Heard → Queues → List ℕ → List ℕ → Outcome → List ℕ → List ℕ → Type 0
+Hearing p x q cs ks r cs' ks' = (v : Setup) (s : State) → p v → Holds v s q cs ks → Answers v s x r cs' ks'
 
 -- The promise of an event's function.
-abbrev pub Answering : Setup → Event → Queues → List ℕ → List ℕ → Outcome → List ℕ → List ℕ → Type 0
-Answering v e = Hearing v (known e)
+abbrev pub Answering : (Setup → Type 0) → Event → Queues → List ℕ → List ℕ → Outcome → List ℕ → List ℕ → Type 0
+Answering p e = Hearing p (known e)

@@ -2,9 +2,9 @@
 -- it ends.
 -- Assumes nothing.
 use Prim.Native.Nat.{ℕ, ◌<◌}
-use mathlib.Core.Bool.{cond, false, true}
+use mathlib.Core.Bool.{cond, true}
 use mathlib.Core.List.{List}
-use mathlib.Core.Path.{◌∙◌, ◌≡◌, ap, refl, sym}
+use mathlib.Core.Path.{◌≡◌, ap, refl, sym}
 use lib.ListN.{set}
 use Rattle.rules.specs.Events.{abort, due_by, invoke, ready, reply}
 use Rattle.rules.specs.Limits.{max_clients}

@@ -14,7 +14,7 @@ use Rattle.rules.specs.Step.{answer, next, step_by}
 use Rattle.rules.proofs.Charge.{pick-charge}
 use Rattle.rules.proofs.FirstVersion.{reply-picks}
 use Rattle.gate.proofs.Tables.{table_same}
-use Rattle.gate.specs.Shown.{setup_of, table}
+use Rattle.gate.specs.Shown.{setup_of}
 use Rattle.gate.specs.declared.Setup.{Setup}
 use Rattle.parts.specs.Shows.{ShowsQueues}
 use Rattle.parts.specs.declared.Queues.{Queues}

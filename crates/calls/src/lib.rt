@@ -10,7 +10,6 @@ ghost use Rattle.rules.specs.Setup.{real_time};
 ghost use Rattle.rules.specs.Events as rules;
 ghost use Rattle.rules.specs.Step.{fit_form};
 ghost use Rattle.rules.specs.Records.{reply_ready};
-ghost use Rattle.gate.specs.declared.Setup as given;
 ghost use Rattle.gate.specs.Shown.{setup_of, server_of};
 ghost use Rattle.parts.specs.Shows.{Homes, ServerFits};
 ghost use Rattle.answers.specs.Answers.{Hearing, Answering};
@@ -60,8 +59,9 @@ pub fn invoke(
     deadline: Option<u32>,
 ) -> Outcome
     requires { Homes setup.now.homes × (setup.now.clients ≤ max_clients) }
-    ensures { Answering setup.now (rules.invoke c.0 (form_in deadline)) q charges.old keys.old result
-        charges.new keys.new }
+    ensures { Answering (λ v. (setup.now.kinds ≡ v.kinds) × (setup.now.homes ≡ v.homes)
+        × (setup.now.sizes ≡ v.sizes) × (setup.now.clients ≡ v.clients) × (setup.now.timed ≡ v.timed))
+        (rules.invoke c.0 (form_in deadline)) q charges.old keys.old result charges.new keys.new }
 {
     if !fits_form(setup.timed, deadline) {
         return Outcome {
@@ -96,7 +96,9 @@ pub fn invoke(
 // Reply: 12.
 pub fn reply(q: Queues, setup: &Setup, keys: &mut [u32; 64]) -> Outcome
     requires { ServerFits (server_of q.service.server) × Homes setup.now.homes }
-    ensures { (cs : List ℕ) → Answering setup.now rules.reply q cs keys.old result cs keys.new }
+    ensures { (cs : List ℕ) → Answering (λ v. (setup.now.homes ≡ v.homes)
+        × (setup.now.sizes ≡ v.sizes) × (setup.now.timed ≡ v.timed)) rules.reply q cs keys.old result cs
+        keys.new }
 {
     let server = q.service.server;
     if !serving::is_serving(server) {
@@ -116,7 +118,9 @@ pub fn reply(q: Queues, setup: &Setup, keys: &mut [u32; 64]) -> Outcome
 // A reply and, if that is accepted, the ready after it, which finds the server tidying: 12.
 pub fn reply_ready(q: Queues, setup: &Setup, keys: &mut [u32; 64]) -> Outcome
     requires { ServerFits (server_of q.service.server) × Homes setup.now.homes }
-    ensures { (cs : List ℕ) → Hearing setup.now reply_ready q cs keys.old result cs keys.new }
+    ensures { (cs : List ℕ) → Hearing (λ v. (setup.now.homes ≡ v.homes)
+        × (setup.now.sizes ≡ v.sizes) × (setup.now.timed ≡ v.timed)) reply_ready q cs keys.old result cs
+        keys.new }
 {
     let r = reply(q, setup, keys);
     let Answer::Accepted = r.answer else {
@@ -128,7 +132,7 @@ pub fn reply_ready(q: Queues, setup: &Setup, keys: &mut [u32; 64]) -> Outcome
 
 // Ready: 26.
 pub fn ready(q: Queues) -> Outcome
-    ensures { (v : given.Setup) (cs ks : List ℕ) → Answering v rules.ready q cs ks result cs ks }
+    ensures { (cs ks : List ℕ) → Answering (λ v. Unit) rules.ready q cs ks result cs ks }
 {
     if !serving::is_tidying(q.service.server) {
         return Outcome {
@@ -146,7 +150,9 @@ pub fn ready(q: Queues) -> Outcome
 // Abort c: 10, 16, 17 where it is spent, else 15 where it doesn't wait.
 pub fn abort(q: Queues, setup: &Setup, keys: &mut [u32; 64], c: Client) -> Outcome
     requires { Homes setup.now.homes × (setup.now.clients ≤ max_clients) }
-    ensures { (cs : List ℕ) → Answering setup.now (rules.abort c.0) q cs keys.old result cs keys.new }
+    ensures { (cs : List ℕ) → Answering (λ v. (setup.now.kinds ≡ v.kinds) × (setup.now.homes ≡ v.homes)
+        × (setup.now.sizes ≡ v.sizes) × (setup.now.clients ≡ v.clients) × (setup.now.timed ≡ v.timed))
+        (rules.abort c.0) q cs keys.old result cs keys.new }
 {
     if u16::from(setup.clients) <= c.0 {
         return Outcome {

@@ -9,6 +9,7 @@ ghost use Rattle.rules.specs.Rank.{outranks};
 ghost use Rattle.rules.specs.Events.{charged};
 ghost use Rattle.rules.specs.Sound.{Sound};
 ghost use Rattle.sets.specs.Sets.{set_of};
+ghost use Rattle.gate.specs.declared.Setup as given;
 ghost use Rattle.gate.specs.Shown.{setup_of, show_rooms};
 ghost use Rattle.parts.specs.Shows.{ShowsKeys, ShowsLines};
 ghost use Rattle.charging.specs.Charged.{waiting_in, overcharges_in, grown};
@@ -37,9 +38,10 @@ fn waiting_in(l: Line, room: u64) -> u64
 // The charged clients.
 pub fn charged(q: &Queues, setup: &Setup, keys: &[u32; 64]) -> u64
     requires { setup.now.clusters ≤ max_clusters }
-    ensures { (s : State) → ShowsKeys setup.now s keys.now → ShowsLines s.lines q.now.lines
-        → q.now.rooms ≡ show_rooms (setup_of setup.now).cluster s.room → Sound (setup_of setup.now) s
-        → result ≡ set_of max_clients (charged (setup_of setup.now) (outranks (setup_of setup.now) s) s) }
+    ensures { (v : given.Setup) (s : State) → setup.now.sizes ≡ v.sizes → ShowsKeys v s keys.now
+        → setup.now.clusters ≡ v.clusters → ShowsLines s.lines q.now.lines
+        → q.now.rooms ≡ show_rooms (setup_of v).cluster s.room → Sound (setup_of v) s
+        → result ≡ set_of max_clients (charged (setup_of v) (outranks (setup_of v) s) s) }
 {
     let mut s = 0;
     for k in 0..usize::from(setup.clusters) {

@@ -4,7 +4,6 @@
 ghost use Rattle.std.specs.Prelude.{◌≡◌, ◌<◌};
 ghost use Rattle.rules.specs.Limits.{max_clients};
 ghost use Rattle.rules.specs.Events as rules;
-ghost use Rattle.gate.specs.declared.Setup as given;
 ghost use Rattle.parts.specs.Shows.{Homes, Leaves};
 ghost use Rattle.entering.specs.Finds.{enters, Ready};
 
@@ -15,7 +14,7 @@ use parts::Queues;
 // global queue, unless its cluster is blocked.
 fn arrived(mut q: Queues, setup: &Setup, c: Client) -> Queues
     requires { (c.0 < max_clients) × Homes setup.now.homes }
-    ensures { Leaves setup.now (λ s. Ready setup.now s c.0)
+    ensures { Leaves (λ v s. (setup.now.homes ≡ v.homes) × (setup.now.sizes ≡ v.sizes) × Ready v s c.0)
         (λ u s. rules.arrive u c.0 (s.lines (u.cluster c.0)) s) q result }
 {
     let k = rows::home(setup, c);
@@ -35,7 +34,7 @@ fn arrived(mut q: Queues, setup: &Setup, c: Client) -> Queues
 // Best-effort: joins the background queue.
 fn behind(mut q: Queues, c: Client) -> Queues
     requires { c.0 < max_clients }
-    ensures { (v : given.Setup) → Leaves v (λ s. Ready v s c.0) (λ u s. rules.behind c.0 s) q result }
+    ensures { Leaves (λ v s. Ready v s c.0) (λ u s. rules.behind c.0 s) q result }
 {
     places::join(&mut q.background, rows::byte(c));
     q
@@ -44,7 +43,8 @@ fn behind(mut q: Queues, c: Client) -> Queues
 // The one or the other by its kind.
 fn entered(q: Queues, setup: &Setup, c: Client) -> Queues
     requires { (c.0 < max_clients) × Homes setup.now.homes }
-    ensures { Leaves setup.now (λ s. Ready setup.now s c.0) (λ u s. enters u c.0 s) q result }
+    ensures { Leaves (λ v s. (setup.now.kinds ≡ v.kinds) × (setup.now.homes ≡ v.homes)
+        × (setup.now.sizes ≡ v.sizes) × Ready v s c.0) (λ u s. enters u c.0 s) q result }
 {
     if rows::is_real_time(setup, c) {
         return arrived(q, setup, c);
@@ -55,7 +55,8 @@ fn entered(q: Queues, setup: &Setup, c: Client) -> Queues
 // Invoke c. Last, if the server is idle, pick.
 pub fn invoked(q: Queues, setup: &Setup, c: Client) -> Queues
     requires { (c.0 < max_clients) × Homes setup.now.homes }
-    ensures { Leaves setup.now (λ s. Ready setup.now s c.0) (λ u s. rules.invoked u c.0 s) q result }
+    ensures { Leaves (λ v s. (setup.now.kinds ≡ v.kinds) × (setup.now.homes ≡ v.homes)
+        × (setup.now.sizes ≡ v.sizes) × Ready v s c.0) (λ u s. rules.invoked u c.0 s) q result }
 {
     let server = q.service.server;
     let n = entered(q, setup, c);

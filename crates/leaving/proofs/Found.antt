@@ -22,8 +22,8 @@ use Rattle.parts.proofs.Turns.{order, fine, queue-once, queue-below, turn-free, 
 use Rattle.leaving.specs.Finds.{Turn, Yields}
 
 module _ (v : Setup) (s : State) (sound : Sound (setup_of v) s) where
-  pub refills : {ks : List ℕ} → ShowsKeys v s ks → Refills v s ks
-  refills f = record { keys = f; known = λ c q. (sound.room c q).known }
+  pub refills : {ms ks : List ℕ} → ms ≡ v.sizes → ShowsKeys v s ks → Refills v s ms ks
+  refills e f = record { sizes = e; keys = f; known = λ c q. (sound.room c q).known }
 
   pub turn : (c : ℕ) → Turn v s c
   turn c first =

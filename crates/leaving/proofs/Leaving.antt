@@ -46,9 +46,10 @@ gone-global u rank c s =
     go (some d) = refl
 
 -- what a refill reads shows a state between too, with the same rooms and the same deadlines
-pub refills-kept : {v : Setup} {s t : State} {ks : List ℕ} → Refills v s ks → t.room ≡ s.room
-    → t.deadline ≡ s.deadline → Refills v t ks
+pub refills-kept : {v : Setup} {s t : State} {ms ks : List ℕ} → Refills v s ms ks → t.room ≡ s.room
+    → t.deadline ≡ s.deadline → Refills v t ms ks
 refills-kept h r e = record {
+  sizes = h.sizes;
   keys = keys_kept h.keys e;
   known = λ c q. h.known c (ap (λ f. f c) (sym r) ∙ q);
 }

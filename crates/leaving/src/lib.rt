@@ -23,7 +23,8 @@ use parts::Queues;
 // c leaves its line, then refill.
 fn gone(mut q: Queues, setup: &Setup, keys: &[u32; 64], c: Client) -> Queues
     requires { (c.0 < max_clients) × Homes setup.now.homes }
-    ensures { Leaves setup.now (λ s. Refills setup.now s keys.now)
+    ensures { Leaves (λ v s. (setup.now.homes ≡ v.homes)
+        × Refills v s setup.now.sizes keys.now)
         (λ u s. rules.gone u (outranks u s) c.0 s) q result }
 {
     let k = rows::home(setup, c);
@@ -43,8 +44,9 @@ fn freed(q: Queues) -> Queues
 // The request of a front ends: it leaves its line, then refill, and the next front joins the global queue.
 fn front_ended(q: Queues, setup: &Setup, keys: &[u32; 64], c: Client) -> Queues
     requires { (c.0 < max_clients) × Homes setup.now.homes }
-    ensures { Leaves setup.now (λ s. Refills setup.now s keys.now × (length s.global < max_clusters))
-        (λ u s. rules.ended u (outranks u s) (front c.0) s) q result }
+    ensures { Leaves (λ v s. (setup.now.homes ≡ v.homes)
+        × Refills v s setup.now.sizes keys.now
+        × (length s.global < max_clusters)) (λ u s. rules.ended u (outranks u s) (front c.0) s) q result }
 {
     let k = rows::home(setup, c);
     moves::queued(gone(freed(q), setup, keys, c), setup, k)
@@ -53,7 +55,7 @@ fn front_ended(q: Queues, setup: &Setup, keys: &[u32; 64], c: Client) -> Queues
 // The request of a spent client ends: its cluster stops being blocked, and the front there joins the global queue.
 fn spent_ended(q: Queues, setup: &Setup, c: Client) -> Queues
     requires { (c.0 < max_clients) × Homes setup.now.homes }
-    ensures { Leaves setup.now (λ s. length s.global < max_clusters)
+    ensures { Leaves (λ v s. (setup.now.homes ≡ v.homes) × (length s.global < max_clusters))
         (λ u s. rules.ended u (outranks u s) (spent c.0) s) q result }
 {
     let k = rows::home(setup, c);
@@ -64,8 +66,9 @@ fn spent_ended(q: Queues, setup: &Setup, c: Client) -> Queues
 // Reply: the served request ends, and nobody is picked yet.
 pub fn replied(q: Queues, setup: &Setup, keys: &[u32; 64]) -> Queues
     requires { ServerFits (server_of q.service.server) × Homes setup.now.homes }
-    ensures { Leaves setup.now (λ s. Refills setup.now s keys.now × Yields s.server s.global)
-        (λ u s. rules.replied u (outranks u s) s) q result }
+    ensures { Leaves (λ v s. (setup.now.homes ≡ v.homes)
+        × Refills v s setup.now.sizes keys.now
+        × Yields s.server s.global) (λ u s. rules.replied u (outranks u s) s) q result }
 {
     match q.service.server {
         Server::Front(c) => front_ended(q, setup, keys, c),
@@ -88,7 +91,9 @@ fn unqueued(mut q: Queues, c: Client) -> Queues
 // A front that is not in service leaves line and global queue, and the new front joins the end of that queue.
 fn front_aborted(q: Queues, setup: &Setup, keys: &[u32; 64], c: Client) -> Queues
     requires { (c.0 < max_clients) × Homes setup.now.homes }
-    ensures { Leaves setup.now (λ s. Refills setup.now s keys.now × (length (remove c.0 s.global) < max_clusters))
+    ensures { Leaves (λ v s. (setup.now.homes ≡ v.homes)
+        × Refills v s setup.now.sizes keys.now
+        × (length (remove c.0 s.global) < max_clusters))
         (λ u s. queue u (u.cluster c.0) (rules.gone u (outranks u s) c.0 (rules.unqueue c.0 s))) q result }
 {
     let k = rows::home(setup, c);
@@ -99,8 +104,9 @@ fn front_aborted(q: Queues, setup: &Setup, keys: &[u32; 64], c: Client) -> Queue
 // not in service: leaves line and global queue. In the line but not front: leaves.
 pub fn aborted(mut q: Queues, setup: &Setup, keys: &[u32; 64], c: Client) -> Queues
     requires { (c.0 < max_clients) × Homes setup.now.homes }
-    ensures { Leaves setup.now (λ s. Refills setup.now s keys.now × Turn setup.now s c.0)
-        (λ u s. rules.aborted u (outranks u s) c.0 s) q result }
+    ensures { Leaves (λ v s. (setup.now.homes ≡ v.homes)
+        × Refills v s setup.now.sizes keys.now
+        × Turn v s c.0) (λ u s. rules.aborted u (outranks u s) c.0 s) q result }
 {
     let k = rows::home(setup, c);
     let at = usize::from(c.0);

@@ -6,7 +6,6 @@ ghost use Rattle.std.specs.Prelude.{◌≡◌, ◌<◌, length};
 ghost use Rattle.rules.specs.Limits.{max_clusters, max_clients};
 ghost use Rattle.rules.specs.Rank.{outranks};
 ghost use Rattle.rules.specs.Queues as rules;
-ghost use Rattle.gate.specs.declared.Setup as given;
 ghost use Rattle.parts.specs.Parts.{put_server};
 ghost use Rattle.parts.specs.Shows.{Refills, Leaves};
 
@@ -19,7 +18,7 @@ use parts::{Queues, Service};
 // end.
 pub fn refilled(mut q: Queues, setup: &Setup, keys: &[u32; 64], k: Cluster) -> Queues
     requires { k.0 < max_clusters }
-    ensures { Leaves setup.now (λ s. Refills setup.now s keys.now)
+    ensures { Leaves (λ v s. Refills v s setup.now.sizes keys.now)
         (λ u s. rules.refill u (outranks u s) k.0 s) q result }
 {
     let line = q.lines[k.0];
@@ -51,7 +50,7 @@ pub fn served(q: Queues, server: Server, units: u32) -> Queues
 // Pick: the first of the global queue enters service (it stays front of its line); if that queue is empty, the first
 // of the background queue; if both are empty, the server is idle. Units served become 0.
 pub fn picked(mut q: Queues) -> Queues
-    ensures { (v : given.Setup) → Leaves v (λ s. Unit) (λ u s. rules.pick s) q result }
+    ensures { Leaves (λ v s. Unit) (λ u s. rules.pick s) q result }
 {
     let x = q.global[0];
     if x != places::UNUSED {
@@ -71,7 +70,8 @@ pub fn picked(mut q: Queues) -> Queues
 // The front of a cluster joins the end of the global queue, unless the cluster is blocked.
 pub fn queued(mut q: Queues, setup: &Setup, k: Cluster) -> Queues
     requires { (k.0 < max_clusters) × (length setup.now.homes ≡ max_clients) }
-    ensures { Leaves setup.now (λ s. length s.global < max_clusters) (λ u s. rules.queue u k.0 s) q result }
+    ensures { Leaves (λ v s. (setup.now.homes ≡ v.homes) × (length s.global < max_clusters))
+        (λ u s. rules.queue u k.0 s) q result }
 {
     if serving::is_blocked(setup, q.service.server, k) {
         return q;

@@ -34,8 +34,9 @@ pub record ShowsKeys (v : Setup) (s : State) (ks : List ℕ) : Type 0 where
   pub size : length ks ≡ max_clients
   pub key : (c : ℕ) → get_or ks c 0 ≡ level (setup_of v) s c
 
--- the keys that a refill reads are the state's, and whoever is in a waiting room is a client
-pub record Refills (v : Setup) (s : State) (ks : List ℕ) : Type 0 where
+-- what a refill reads is v's and the state's, and whoever is in a waiting room is a client
+pub record Refills (v : Setup) (s : State) (ms ks : List ℕ) : Type 0 where
+  pub sizes : ms ≡ v.sizes
   pub keys : ShowsKeys v s ks
   pub known : (c : ℕ) → s.room c ≡ true → c < v.clients
 
@@ -95,6 +96,7 @@ pub record Within (s : State) : Type 0 where
 
 -- WHAT A FUNCTION ON PARTS PROMISES
 
--- Whatever state of which p holds the queues q show, of the setup v, the queues r show what f makes of it.
-abbrev pub Leaves : Setup → (State → Type 0) → (rules-setup.Setup → State → State) → Queues → Queues → Type 0
-Leaves v p f q r = (s : State) → Fine v → p s → ShowsQueues v s q → ShowsQueues v (f (setup_of v) s) r
+-- Whatever state the queues q show, of a setup of which p holds, the queues r show what f makes of it.
+abbrev pub Leaves : (Setup → State → Type 0) → (rules-setup.Setup → State → State) → Queues → Queues → Type 0
+Leaves p f q r =
+    (v : Setup) (s : State) → Fine v → p v s → ShowsQueues v s q → ShowsQueues v (f (setup_of v) s) r

@@ -1,4 +1,4 @@
--- A run and the last of it, as their functions promise them.
+-- A run and the last of it, as their functions promise them: of queues of which they are handed a part.
 -- Assumes nothing.
 use Rattle.std.specs.Prelude.{ℕ, ◌≡◌, cond, List}
 use Rattle.rules.specs.Limits.{max_clients}
@@ -8,8 +8,10 @@ use Rattle.rules.specs.State.{State}
 use Rattle.rules.specs.Rank.{outranks}
 use Rattle.rules.specs.Events.{ran, run}
 use Rattle.rules.specs.Step.{overcharges}
+use Rattle.gate.specs.declared.Line.{Line}
 use Rattle.gate.specs.declared.Setup.{Setup}
 use Rattle.parts.specs.declared.Queues.{Queues}
+use Rattle.parts.specs.declared.Service.{Service}
 use Rattle.parts.specs.Parts.{put_server}
 use Rattle.gate.specs.Shown.{setup_of, table}
 use Rattle.parts.specs.Shows.{ShowsKeys, ShowsQueues}
@@ -33,10 +35,15 @@ pub record Charges (v : Setup) (s : State) (n : ℕ) (r : Outcome) (cs ks : List
 abbrev pub outcome : Queues → Ran → Outcome
 outcome q r = record { queues = put_server r.service.server r.service.units q; answer = r.answer }
 
--- The promises of the two functions: so it is in every sound state that the queues, the charges cs and the keys ks
--- show, of the setup v; cs' are the charges after, and the keys stay.
-abbrev pub Charging : Setup → ℕ → Queues → List ℕ → List ℕ → Ran → List ℕ → Type 0
-Charging v n q cs ks r cs' = (s : State) → Holds v s q cs ks → Charges v s n (outcome q r) cs' ks
+-- The promises of the two functions, for all queues with these lines, rooms and service: so it is in every sound state
+-- that the queues, the charges cs and the keys ks show, of a setup of which p holds; cs' are the charges after, and the
+-- keys stay.
+abbrev pub Charging : (Setup → Type 0) → ℕ → List Line → List ℕ → Service → List ℕ → List ℕ → Ran → List ℕ → Type 0
+Charging p n lines rooms y cs ks r cs' =
+    (q : Queues) → q.lines ≡ lines → q.rooms ≡ rooms → q.service ≡ y → (v : Setup) (s : State) → p v
+    → Holds v s q cs ks → Charges v s n (outcome q r) cs' ks
 
-abbrev pub Running : Setup → ℕ → Queues → List ℕ → List ℕ → Ran → List ℕ → Type 0
-Running v n q cs ks r cs' = Answering v (run n) q cs ks (outcome q r) cs' ks
+abbrev pub Running : (Setup → Type 0) → ℕ → List Line → List ℕ → Service → List ℕ → List ℕ → Ran → List ℕ → Type 0
+Running p n lines rooms y cs ks r cs' =
+    (q : Queues) → q.lines ≡ lines → q.rooms ≡ rooms → q.service ≡ y
+    → Answering p (run n) q cs ks (outcome q r) cs' ks

@@ -3,7 +3,9 @@
 
 ghost use Rattle.std.specs.Prelude.{◌≡◌, ◌+◌, ◌≤◌, ltb};
 ghost use Rattle.rules.specs.Limits.{max_clusters, max_cap};
+ghost use Rattle.rules.specs.State.{cap_of};
 ghost use Rattle.rules.specs.Events as rules;
+ghost use Rattle.gate.specs.Shown.{setup_of, server_of};
 ghost use Rattle.answers.specs.Answers.{Answering};
 ghost use Rattle.running.specs.Runs.{Charging, Running};
 
@@ -31,7 +33,8 @@ struct Ran {
 // The last of a run: 19 for the charge, or the run.
 fn charged(q: &Queues, setup: &Setup, keys: &[u32; 64], charges: &mut [u32; 64], n: u16) -> Ran
     requires { (setup.now.clusters ≤ max_clusters) × (q.now.service.units + n ≤ max_cap) }
-    ensures { Charging setup.now n q.now charges.old keys.now result charges.new }
+    ensures { Charging (λ v. (setup.now.sizes ≡ v.sizes) × (setup.now.clusters ≡ v.clusters)) n q.now.lines
+        q.now.rooms q.now.service charges.old keys.now result charges.new }
 {
     let service = q.service;
     let set = charging::charged(q, setup, keys);
@@ -55,7 +58,10 @@ fn charged(q: &Queues, setup: &Setup, keys: &[u32; 64], charges: &mut [u32; 64],
 // A run of n: 13, 12, 14 by the cap of the one in service or of the tidying, then 19 for the charge.
 fn answered(q: &Queues, setup: &Setup, keys: &[u32; 64], charges: &mut [u32; 64], n: u16) -> Ran
     requires { setup.now.clusters ≤ max_clusters }
-    ensures { Running setup.now n q.now charges.old keys.now result charges.new }
+    ensures { Running (λ v. (setup.now.sizes ≡ v.sizes) × (setup.now.clusters ≡ v.clusters)
+        × (cap_of (setup_of setup.now) (server_of q.now.service.server)
+        ≡ cap_of (setup_of v) (server_of q.now.service.server))) n q.now.lines q.now.rooms q.now.service
+        charges.old keys.now result charges.new }
 {
     let service = q.service;
     if n == 0 {
@@ -82,7 +88,9 @@ fn answered(q: &Queues, setup: &Setup, keys: &[u32; 64], charges: &mut [u32; 64]
 // Run n. It changes the service of the queues, and nothing else of them.
 pub fn run(q: Queues, setup: &Setup, keys: &[u32; 64], charges: &mut [u32; 64], n: u16) -> Outcome
     requires { setup.now.clusters ≤ max_clusters }
-    ensures { Answering setup.now (rules.run n) q charges.old keys.now result charges.new keys.now }
+    ensures { Answering (λ v. (setup.now.sizes ≡ v.sizes) × (setup.now.clusters ≡ v.clusters)
+        × (setup.now.cap ≡ v.cap) × (setup.now.tidy ≡ v.tidy)) (rules.run n) q charges.old keys.now result
+        charges.new keys.now }
 {
     let Ran { service, answer } = answered(&q, setup, keys, charges, n);
     Outcome {

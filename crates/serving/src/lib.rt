@@ -5,6 +5,7 @@ ghost use Rattle.std.specs.Prelude.{◌≡◌, length};
 ghost use Rattle.rules.specs.Limits.{max_clients};
 ghost use Rattle.rules.specs.State.{is_idle, is_tidying, is_serving, cap_of, serves, is_front, is_spent, blocks};
 ghost use Rattle.rules.specs.Replay.{in_service};
+ghost use Rattle.gate.specs.declared.Setup as given;
 ghost use Rattle.gate.specs.Shown.{setup_of, server_of};
 ghost use Rattle.serving.specs.Service.{number_in};
 
@@ -76,7 +77,7 @@ pub fn is_spent(s: Server, c: usize) -> bool
 // A cluster is blocked exactly while a spent client of that cluster is in service.
 pub fn is_blocked(setup: &Setup, s: Server, k: Cluster) -> bool
     requires { length setup.now.homes ≡ max_clients }
-    ensures { result ≡ blocks (setup_of setup.now) (server_of s) k.0 }
+    ensures { (v : given.Setup) → setup.now.homes ≡ v.homes → result ≡ blocks (setup_of v) (server_of s) k.0 }
 {
     match s {
         Server::Spent(c) => rows::cluster_of(&setup.homes, usize::from(c.0)).0 == k.0,

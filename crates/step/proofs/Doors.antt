@@ -26,8 +26,21 @@ use Rattle.soundness.specs.Clauses.{sound_of}
 use Rattle.soundness.proofs.Exact.{passed-laid, passed-sound}
 use Rattle.answers.specs.Answers.{number_of, Answers, Holds}
 use Rattle.answers.specs.declared.Outcome.{Outcome}
-use Rattle.step.specs.Stepped.{Result, told_in, ruled, stepped, Ranged}
+use Rattle.step.specs.Stepped.{Result, told_in, ruled, stepped, Ranged, Given}
 use Rattle.step.specs.declared.Answered.{Answered}
+
+-- what is handed over of a setup is that setup's
+pub given : (v : Setup) → Given v v
+given v = record {
+  clusters = refl;
+  clients = refl;
+  cap = refl;
+  tidy = refl;
+  timed = refl;
+  sizes = refl;
+  kinds = refl;
+  homes = refl;
+}
 
 -- parts that show a sound state are in range
 pub in-range : {v : Setup} {s : State} {q : Queues} {cs ks : List ℕ} → Holds v s q cs ks

@@ -1,6 +1,6 @@
 -- A step of a gate: the number that it answers, and the gate after it.
 -- Assumes nothing.
-use Rattle.std.specs.Prelude.{ℕ, ◌≤◌, cond}
+use Rattle.std.specs.Prelude.{ℕ, ◌≤◌, cond, ◌≡◌}
 use Rattle.rules.specs.Limits.{max_clients, max_clusters}
 use Rattle.rules.specs.Refusals.{unsound}
 use Rattle.rules.specs.Records.{Heard, answer_of, step_of}
@@ -41,3 +41,14 @@ pub record Ranged (v : Setup) (q : Queues) : Type 0 where
   pub clients : v.clients ≤ max_clients
   pub homes : Homes v.homes
   pub server : ServerFits (server_of q.service.server)
+
+-- v is the setup u but for its priorities: in their place the inner door takes the keys
+pub record Given (u v : Setup) : Type 0 where
+  pub clusters : u.clusters ≡ v.clusters
+  pub clients : u.clients ≡ v.clients
+  pub cap : u.cap ≡ v.cap
+  pub tidy : u.tidy ≡ v.tidy
+  pub timed : u.timed ≡ v.timed
+  pub sizes : u.sizes ≡ v.sizes
+  pub kinds : u.kinds ≡ v.kinds
+  pub homes : u.homes ≡ v.homes

@@ -8,7 +8,7 @@ ghost use Rattle.gate.specs.Heard.{event_in, heard_in};
 ghost use Rattle.parts.specs.Parts.{gate_of};
 ghost use Rattle.soundness.specs.Clauses.{sound_of};
 ghost use Rattle.answers.specs.Answers.{Hearing};
-ghost use Rattle.step.specs.Stepped.{told_in, stepped, Ranged};
+ghost use Rattle.step.specs.Stepped.{told_in, stepped, Ranged, Given};
 
 use answers::{Answer, Outcome};
 use gate::{Event, Gate, Heard, NEWEST_VERSION, Record, Setup, heard_in};
@@ -32,7 +32,7 @@ pub fn sound_step(
     e: Event,
 ) -> Outcome
     requires { Ranged setup.now q }
-    ensures { Hearing setup.now (known (event_in e)) q charges.old keys.old result charges.new keys.new }
+    ensures { Hearing (Given setup.now) (known (event_in e)) q charges.old keys.old result charges.new keys.new }
 {
     match e {
         Event::Invoke(c) => calls::invoke(q, setup, charges, keys, c, None),
@@ -53,7 +53,7 @@ pub fn sound_record(
     h: Heard,
 ) -> Outcome
     requires { Ranged setup.now q }
-    ensures { Hearing setup.now (heard_in h) q charges.old keys.old result charges.new keys.new }
+    ensures { Hearing (Given setup.now) (heard_in h) q charges.old keys.old result charges.new keys.new }
 {
     match h {
         Heard::Known(e) => sound_step(q, setup, charges, keys, e),

@@ -25,41 +25,40 @@ returns-then-not-fits_form c =
     let a = c.args in
     let o = form_in a.deadline in
     let f = sym c.fits_form.ensures ∙ c.if-not-fits_form.true in
-    λ s h. refuses h (known (invoke a.c.0 o)) Unknown (invoke-unfit a.setup.now s a.c.0 o f) (λ z. omega arith)
+    λ v s e h. refuses h (known (invoke a.c.0 o)) Unknown (invoke-unfit v s a.c.0 o (rw e.4 at f)) (λ z. omega arith)
 
 pub returns-then-from-c : goal.returns-then-from-c
 returns-then-from-c c =
     let a = c.args in
     let o = form_in a.deadline in
     let f = sym c.fits_form.ensures ∙ c.if-not-fits_form.false in
-    λ s h.
+    λ v s e h.
     refuses h (known (invoke a.c.0 o)) NoClient
-    (invoke-unknown a.setup.now s a.c.0 c.from.ensures o f c.if-from-c.true) (λ z. omega arith)
+    (invoke-unknown v s a.c.0 (c.from.ensures ∙ e.3) o (rw e.4 at f) c.if-from-c.true) (λ z. omega arith)
 
 pub returns-then-present : goal.returns-then-present
 returns-then-present c =
     let a = c.args in
     let o = form_in a.deadline in
     let f = sym c.fits_form.ensures ∙ c.if-not-fits_form.false in
-    λ s h.
+    λ v s e h.
     refuses h (known (invoke a.c.0 o)) WaitsAlready
-    (invoke-present a.setup.now s a.c.0 c.from.ensures c.if-from-c.false o f
-    (c.present.ensures ∙ present-is h.queues c.home-k.ensures _ _) c.if-present.true) (λ z. omega arith)
+    (invoke-present v s a.c.0 (c.from.ensures ∙ e.3) c.if-from-c.false o (rw e.4 at f)
+    (c.present.ensures ∙ present-is h.queues (rw e.1 at c.home-k.ensures) _ _) c.if-present.true) (λ z. omega arith)
 
 pub returns : goal.returns
 unfolding moved_by
 returns c =
     let a = c.args in
-    let v = a.setup.now in
-    let u = setup_of v in
     let d = a.c.0 in
     let o = form_in a.deadline in
     let f = sym c.fits_form.ensures ∙ c.if-not-fits_form.false in
     let low : d < max_clients = omega (arith, c.from.ensures, c.requires) in
-    λ s h.
-    let fits = invoke-fine v s d c.from.ensures c.if-from-c.false o f
-    (c.present.ensures ∙ present-is h.queues c.home-k.ensures _ _) c.if-present.false in
+    λ v s e h.
+    let fits = invoke-fine v s d (c.from.ensures ∙ e.3) c.if-from-c.false o (rw e.4 at f)
+    (c.present.ensures ∙ present-is h.queues (rw e.1 at c.home-k.ensures) _ _) c.if-present.false in
     accepts (invoke d o) fits
-    (c.invoked.ensures s (fine h) (ready v s h.sound d (invoke-accepted u (outranks u s) s d o fits)) h.queues)
-    (invoke-charge h d o c.begun.ensures.charges_after)
-    (invoke-keys h.keys d o low c.begun.ensures.keys_after)
+    (c.invoked.ensures v s (fine h)
+    (e.0, e.1, e.2, ready v s h.sound d (invoke-accepted (setup_of v) (outranks (setup_of v) s) s d o fits)) h.queues)
+    (invoke-charge h d o (rw e.0 at c.begun.ensures.charges_after))
+    (invoke-keys h.keys d o low (rw (e.0, e.4) at c.begun.ensures.keys_after))

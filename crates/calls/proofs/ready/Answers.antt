@@ -15,7 +15,7 @@ use Rattle.calls.proofs.ready.Goals as goal
 
 pub returns-then-not-is_tidying : goal.returns-then-not-is_tidying
 returns-then-not-is_tidying c =
-    λ v cs ks s h.
+    λ cs ks v s e h.
     refuses h (known ready) NotTidying
     (ready_refused v s (c.is_tidying.ensures ∙ ap is_tidying h.queues.service.server)
     (c.if-not-is_tidying.true)) (λ z. omega arith)
@@ -23,7 +23,7 @@ returns-then-not-is_tidying c =
 pub returns : goal.returns
 unfolding moved_by readied
 returns c =
-    λ v cs ks s h.
+    λ cs ks v s e h.
     accepts ready
     (ready-fine v s (c.is_tidying.ensures ∙ ap is_tidying h.queues.service.server)
     (c.if-not-is_tidying.false))

@@ -16,20 +16,19 @@ use Rattle.calls.proofs.reply.Goals as goal
 
 pub returns-then-not-is_serving : goal.returns-then-not-is_serving
 returns-then-not-is_serving c =
-    λ cs s h.
+    λ cs v s e h.
     refuses h (known reply) ServerIdle
-    (reply-idle c.args.setup.now s (c.is_serving.ensures ∙ ap is_serving h.queues.service.server)
+    (reply-idle v s (c.is_serving.ensures ∙ ap is_serving h.queues.service.server)
     (c.if-not-is_serving.true)) (λ z. omega arith)
 
 pub returns : goal.returns
 unfolding moved_by
 returns c =
-    let v = c.args.setup.now in
-    λ cs s h.
+    λ cs v s e h.
     let told = c.is_serving.ensures ∙ ap is_serving h.queues.service.server in
     let serves = c.if-not-is_serving.false in
     accepts reply (reply-fine v s told serves)
-    (c.replied-n.ensures s (fine h)
-    (refills v s h.sound h.keys, yields v s h.sound (sym told ∙ serves)) h.queues)
+    (c.replied-n.ensures v s (fine h)
+    (e.0, refills v s h.sound e.1 h.keys, yields v s h.sound (sym told ∙ serves)) h.queues)
     (reply-charge h)
-    (reply-keys h.keys (sym h.queues.service.server) c.requires.0 c.replied.ensures)
+    (reply-keys h.keys (sym h.queues.service.server) c.requires.0 (rw e.2 at c.replied.ensures))

@@ -9,6 +9,6 @@ use Rattle.charging.proofs.charged.Goals as goal
 pub returns : goal.returns
 returns c =
     let l = c.loop-k in
-    let v = c.args.setup.now in
-    let e : l.k ≡ v.clusters = omega (arith, c.from-k-end.ensures) in
-    λ s keys lines rooms sound. l.invariant ∙ rw e (charged-all v sound keys lines rooms blank_line)
+    let e : l.k ≡ c.args.setup.now.clusters = omega (arith, c.from-k-end.ensures) in
+    λ v s ms keys ks lines rooms sound.
+    l.invariant ∙ rw (e, ms, ks) (charged-all v sound keys lines rooms blank_line)

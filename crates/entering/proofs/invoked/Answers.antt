@@ -11,16 +11,16 @@ use Rattle.entering.proofs.invoked.Goals as goal
 pub returns-then-is_idle : goal.returns-then-is_idle
 unfolding invoked
 returns-then-is_idle c =
-    λ s fine e h.
-    let n = enters (setup_of c.args.setup.now) c.args.c.0 s in
+    λ v s fine e h.
+    let n = enters (setup_of v) c.args.c.0 s in
     idle-picks n s.server (c.is_idle.ensures ∙ ap is_idle h.service.server)
     c.if-is_idle.true
-    (c.picked.ensures _ n fine tt (c.entered-n.ensures s fine e h))
+    (c.picked.ensures v n fine tt (c.entered-n.ensures v s fine e h))
 
 pub returns : goal.returns
 unfolding invoked
 returns c =
-    λ s fine e h.
-    let n = enters (setup_of c.args.setup.now) c.args.c.0 s in
+    λ v s fine e h.
+    let n = enters (setup_of v) c.args.c.0 s in
     busy-stays n s.server (c.is_idle.ensures ∙ ap is_idle h.service.server) c.if-is_idle.false
-    (c.entered-n.ensures s fine e h)
+    (c.entered-n.ensures v s fine e h)

@@ -10,12 +10,12 @@ use Rattle.leaving.proofs.front_ended.Goals as goal
 pub returns : goal.returns
 returns c =
     let d = c.args.c.0 in
-    λ s fine e h.
-    let u = setup_of c.args.setup.now in
+    λ v s fine e h.
+    let u = setup_of v in
     let t = gone u (outranks u s) d (freed s) in
-    shows-queue c.home-k.ensures t
-    (c.queued.ensures t fine
-    (rw (gone-global u (outranks u s) d (freed s)) e.1)
+    shows-queue (rw e.0 at c.home-k.ensures) t
+    (c.queued.ensures v t fine
+    (e.0, rw (gone-global u (outranks u s) d (freed s)) e.2)
     (by_rank d (freed s) s (freed s) refl
-    (c.gone.ensures (freed s) fine (refills-kept e.0 refl refl)
+    (c.gone.ensures v (freed s) fine (e.0, refills-kept e.1 refl refl)
     (rw c.freed.ensures (shows-freed h)))))

@@ -8,9 +8,9 @@ use Rattle.leaving.proofs.gone.Goals as goal
 pub returns : goal.returns
 returns c =
     let d = c.args.c.0 in
-    λ s fine e h.
-    let home = c.home-k.ensures in
+    λ v s fine e h.
+    let home = rw e.0 at c.home-k.ensures in
     shows-gone home s
-    (c.refilled.ensures (without c.home-k.result.0 d s) fine
-    (refills-kept e refl refl)
+    (c.refilled.ensures v (without c.home-k.result.0 d s) fine
+    (refills-kept e.1 refl refl)
     (rw (c.shorter.ensures, c.byte.ensures) (shows-without h home _)))

@@ -6,6 +6,6 @@ use Rattle.leaving.proofs.spent_ended.Goals as goal
 
 pub returns : goal.returns
 returns c =
-    λ s fine e h.
-    shows-queue c.home-k.ensures (freed s)
-    (c.queued.ensures (freed s) fine e (rw c.freed-free.ensures (shows-freed h)))
+    λ v s fine e h.
+    shows-queue (rw e.0 at c.home-k.ensures) (freed s)
+    (c.queued.ensures v (freed s) fine e (rw c.freed-free.ensures (shows-freed h)))

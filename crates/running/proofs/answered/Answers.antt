@@ -18,26 +18,30 @@ use Rattle.running.proofs.answered.Goals as goal
 pub returns-then-n-eq0 : goal.returns-then-n-eq0
 returns-then-n-eq0 c =
     let n = c.args.n in
-    λ s h. refuses h (known (run n)) RunOfNone (run_none _ s n c.if-n-eq0.true) (λ z. omega arith)
+    λ q lines rooms service v s e h.
+    rw (← service) (refuses h (known (run n)) RunOfNone (run_none v s n c.if-n-eq0.true) (λ z. omega arith))
 
 pub returns-then-is_idle : goal.returns-then-is_idle
 returns-then-is_idle c =
     let n = c.args.n in
-    λ s h.
-    let idle = c.is_idle.ensures ∙ ap is_idle h.queues.service.server in
-    refuses h (known (run n)) ServerIdle (run-idle _ s idle n c.if-n-eq0.false c.if-is_idle.true) (λ z. omega arith)
+    λ q lines rooms service v s e h.
+    let idle = c.is_idle.ensures ∙ ap is_idle (rw service at h.queues.service.server) in
+    rw (← service)
+    (refuses h (known (run n)) ServerIdle (run-idle v s idle n c.if-n-eq0.false c.if-is_idle.true)
+    (λ z. omega arith))
 
 pub returns-then-passes_cap : goal.returns-then-passes_cap
 returns-then-passes_cap c =
     let n = c.args.n in
-    let v = c.args.setup.now in
-    λ s h.
-    let idle = c.is_idle.ensures ∙ ap is_idle h.queues.service.server in
+    λ q lines rooms service v s e h.
+    let idle = c.is_idle.ensures ∙ ap is_idle (rw service at h.queues.service.server) in
     let past = c.passes_cap.ensures
-    ∙ ap₂ (λ l m. ltb l (m + n)) (c.cap_of.ensures ∙ ap (cap_of (setup_of v)) h.queues.service.server)
-    h.queues.service.units in
-    refuses h (known (run n)) RunPastCap
-    (run_past v s idle n c.if-n-eq0.false c.if-is_idle.false past c.if-passes_cap.true) (λ z. omega arith)
+    ∙ ap₂ (λ l m. ltb l (m + n))
+    (c.cap_of.ensures ∙ e.2 ∙ ap (cap_of (setup_of v)) (rw service at h.queues.service.server))
+    (rw service at h.queues.service.units) in
+    rw (← service)
+    (refuses h (known (run n)) RunPastCap (run_past v s idle n c.if-n-eq0.false
+    c.if-is_idle.false past c.if-passes_cap.true) (λ z. omega arith))
 
 pub charged-requires : goal.charged-requires
 charged-requires c =
@@ -48,10 +52,12 @@ charged-requires c =
 pub returns : goal.returns
 returns c =
     let n = c.args.n in
-    let v = c.args.setup.now in
-    λ s h.
-    let idle = c.is_idle.ensures ∙ ap is_idle h.queues.service.server in
+    λ q lines rooms service v s e h.
+    let idle = c.is_idle.ensures ∙ ap is_idle (rw service at h.queues.service.server) in
     let past = c.passes_cap.ensures
-    ∙ ap₂ (λ l m. ltb l (m + n)) (c.cap_of.ensures ∙ ap (cap_of (setup_of v)) h.queues.service.server)
-    h.queues.service.units in
-    run-charges v s idle n c.if-n-eq0.false c.if-is_idle.false past c.if-passes_cap.false (c.charged.ensures s h)
+    ∙ ap₂ (λ l m. ltb l (m + n))
+    (c.cap_of.ensures ∙ e.2 ∙ ap (cap_of (setup_of v)) (rw service at h.queues.service.server))
+    (rw service at h.queues.service.units) in
+    run-charges v s idle n c.if-n-eq0.false c.if-is_idle.false past
+    c.if-passes_cap.false
+    (c.charged.ensures q lines rooms service v s (e.0, e.1) h)

@@ -10,10 +10,12 @@ use Rattle.running.proofs.charged.Goals as goal
 pub returns-then-overcharges : goal.returns-then-overcharges
 returns-then-overcharges c =
     let n = c.args.n in
-    λ s h.
-    let told = c.charged-set.ensures s h.keys h.queues.lines h.queues.rooms h.sound in
-    charges-over n (c.overcharges.ensures ∙ overcharges-is c.args.setup.now h.sound h.charges told n) h
-    c.if-overcharges.true
+    λ q lines rooms service v s e h.
+    let told = c.charged-set.ensures v s e.0 h.keys e.1 (rw lines at h.queues.lines)
+    (sym rooms ∙ h.queues.rooms) h.sound in
+    rw (← service)
+    (charges-over n (c.overcharges.ensures ∙ overcharges-is v h.sound h.charges told n) h
+    c.if-overcharges.true)
 
 pub charge-requires : goal.charge-requires
 charge-requires c = sym c.overcharges.ensures ∙ c.if-overcharges.false
@@ -22,10 +24,10 @@ pub returns : goal.returns
 unfolding ran
 returns c =
     let n = c.args.n in
-    let v = c.args.setup.now in
-    λ s h.
-    let told = c.charged-set.ensures s h.keys h.queues.lines h.queues.rooms h.sound in
+    λ q lines rooms service v s e h.
+    let told = c.charged-set.ensures v s e.0 h.keys e.1 (rw lines at h.queues.lines)
+    (sym rooms ∙ h.queues.rooms) h.sound in
     charges-fine n (c.overcharges.ensures ∙ overcharges-is v h.sound h.charges told n) h c.if-overcharges.false
-    (rw (h.queues.service.units, c.from.ensures)
+    (rw (← service, h.queues.service.units, c.from.ensures)
     (shows-charge (shows-server h.queues h.queues.service.server h.queues.service.fits) _))
     (c.charge.ensures ∙ charges-ran v h.sound h.charges told n)

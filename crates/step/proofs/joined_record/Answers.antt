@@ -3,7 +3,7 @@
 use mathlib.Core.Path.{◌≡◌}
 use lib.ListN.{length}
 use borrow.Author.Rules.{rules}
-use Rattle.step.proofs.Doors.{answered, holds, in-range}
+use Rattle.step.proofs.Doors.{answered, given, holds, in-range}
 use Rattle.step.proofs.joined_record.Goals as goal
 
 pub sound_record-r-requires : goal.sound_record-r-requires
@@ -23,4 +23,4 @@ returns c =
     let h = holds v c.args.q c.args.charges c.args.deadlines p c.requires in
     rw (c.gate_of.ensures, c.deadlines_of-due.ensures)
     (answered v c.args.q c.args.charges c.args.deadlines p c.requires r.result _ _ _
-    (r.ensures _ (rw k.ensures h)))
+    (r.ensures v _ (given v) (rw k.ensures h)))
