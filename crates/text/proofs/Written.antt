@@ -7,7 +7,7 @@ use native.Mathlib.Omega.{arith}
 use mathlib.Core.Path.{◌≡◌, sym, ap, ◌∙◌}
 use mathlib.Core.List.{List, [], ◌∷◌, ◌++◌, append_assoc, append-nil}
 use lib.ListN.{length, get_or, take, drop, set, length-append, length-drop, take-append-drop}
-use lib.Seq.{drop_at, drop-cons, drop-drop, drop-append-add, take_at, take-suc, take-set-le, length-take-le}
+use lib.Seq.{drop_at, drop-cons, drop-drop, drop-append-add, take_at, take-set-le, length-take-le}
 use lib.Seq.{set_at, set_split, append_snoc}
 use Rattle.text.specs.Text.{written, WroteAt, Wrote}
 
@@ -69,18 +69,6 @@ byte-at out at b h =
 
 pub written_none : (out : List ℕ) (at : ℕ) → written out at [] ≡ out
 written_none out at = rw (add-zero, append-nil) (take-append-drop at out)
-
--- one more byte is copied
-pub copied : (start out from : List ℕ) (at i : ℕ) → at + i < length start → i < length from
-    → out ≡ written start at (take i from)
-    → set out (at + i) (get_or from i 0) ≡ written start at (take (i + 1) from)
-copied start out from at i h k e =
-    let b = get_or from i 0 in
-    let n = length-take-le i from (omega arith) in
-    ap (λ (x : List ℕ). set x (at + i) b) e
-    ∙ ap (λ (m : ℕ). set (written start at (take i from)) (at + m) b) (sym n)
-    ∙ byte-on start (take i from) at (omega arith) b (omega arith)
-    ∙ ap (written start at) (sym (take-suc from i 0 k) ∙ ap (λ (m : ℕ). take m from) (sym (add-one i)))
 
 -- TEXT BEHIND TEXT
 

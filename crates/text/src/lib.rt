@@ -37,11 +37,9 @@ pub fn put_bytes(out: &mut [u8], at: usize, s: &[u8]) -> usize
     requires { at + length s.now ≤ length out.old }
     ensures { WroteAt at s.now out.old out.new result }
 {
-    // A loop and not `copy_from_slice`: most that is put is a few bytes, and the call of that costs more than they do.
-    for (i, b) in s.iter().enumerate() {
-        out[at + i] = *b;
-    }
-    at + s.len()
+    let end = at + s.len();
+    out[at..end].copy_from_slice(s);
+    end
 }
 
 // More bytes behind the n that are held in a room, as many as have room; and how many are held then.
