@@ -22,7 +22,8 @@ fn key(keys: &[u32; 64], c: usize) -> u32
     keys[c]
 }
 
-// Whether client a outranks client b: by their keys, then by their numbers.
+// Whether client a outranks client b: by their keys, then by their numbers. (By returns: of one expression the compiler
+// makes conditional moves, and each comparison of a search waits for the one before it, docs/DESIGN-PASS.md.)
 fn outranks(keys: &[u32; 64], a: usize, b: usize) -> bool
     requires { (a < max_clients) × (b < max_clients) }
     ensures { result ≡ rank_by keys.now a b }
