@@ -21,6 +21,13 @@ joined n k room part rest few fits =
     ∙ sym (take-append-add (take n room) (part ++ rest) k)
     ∙ ap (λ m. take (m + k) (take n room ++ (part ++ rest))) (length-take-le n room few)
 
+-- what is held, and what came behind it, is what the input has lost
+pub both-lost : (a b c : Option (List ℕ)) (n k : ℕ) (room part rest : List ℕ) → n ≤ length room → k ≤ length part
+    → Consumes a b (take n room) → Consumes b c (take k part)
+    → Consumes a c (take (n + k) (take n room ++ (part ++ rest)))
+both-lost a b c n k room part rest few fits held came =
+    subst (Consumes a c) (joined n k room part rest few fits) (Consumes-trans a b c _ _ held came)
+
 -- where there may be more, some came
 some-came : (n m k : ℕ) → Continue m ≡ standing_after n (Ok k) → (m ≡ n + k) × (0 < k)
 some-came n m zero e = let z : ◌≡◌ {A = ℕ} 0 1 = cc in absurd (omega arith)
@@ -39,6 +46,6 @@ more-lost a b c n m (Ok k) room part rest few fits held came e =
       omega (arith, s),
       omega (arith, s, fits.0),
       subst (λ x. Consumes a c (take x (take n room ++ (part ++ rest)))) (sym s.0)
-          (subst (Consumes a c) (joined n k room part rest few fits.0) (Consumes-trans a b c _ _ held came.0)),
+          (both-lost a b c n k room part rest few fits.0 held came.0),
     )
 more-lost a b c n m (Err f) room part rest few fits held came e = let z : ◌≡◌ {A = ℕ} 0 1 = cc in absurd (omega arith)

@@ -157,7 +157,8 @@ fn write_next(
     out: &mut [u8; TEXT],
 ) -> Standing
     requires { (s.index ≤ s.next) × (s.next ≤ input_bytes) × (s.end + line_bytes ≤ text_bytes) }
-    ensures lines { (result.index ≡ s.index + 1) × (s.next + record_size 1 ≤ result.next) × (result.end ≤ s.end + line_bytes) }
+    ensures lines { (result.index ≡ s.index + 1) × (s.next + record_size 1 ≤ result.next)
+        × (result.end ≤ s.end + line_bytes) }
     ensures used { result.used ≡ (record_put version timed (record_in r) s.used buffer.old).used }
     ensures bytes { buffer.new ≡ (record_put version timed (record_in r) s.used buffer.old).bytes }
 {
