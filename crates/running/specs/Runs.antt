@@ -1,4 +1,4 @@
--- A run and the last of it, as their functions promise them: of queues of which they are handed a part.
+-- A run and the last of it, as their functions promise them: of all queues with what they read of those that are lent.
 -- Assumes nothing.
 use Rattle.std.specs.Prelude.{ℕ, ◌≡◌, cond, List}
 use Rattle.rules.specs.Limits.{max_clients}
